@@ -11,11 +11,11 @@ ghost use Rattle.bracket_engine.specs.Found.{IsFound};
 
 use crate::guesses::agrees_with_the_plain_guess;
 use bracket_engine::{Bracket, bracket};
-use expectations::same;
 use game_model::{Marks, Question, UNIT};
 use game_outside::{OpenGate, OutOfMemory};
 use inductive_check::swap;
 use rpatl_syntax::Bound;
+use sample_games::expectations::same;
 use sample_games::{Draw, SMALL, opening_table, plain_sweep, random_game, random_question};
 use std::alloc::Global;
 use std::test::Fail;

@@ -5,10 +5,10 @@ ghost use Rattle.game_model.specs.Dual.{IsZeroSet};
 ghost use Rattle.bracket_engine.specs.Limits.{most_rounds};
 
 use crate::brackets::value_bracket;
-use expectations::same;
 use game_model::{Marks, Question};
 use inductive_check::{check_replies, check_upper};
 use rank_certificate::check_ranks;
+use sample_games::expectations::same;
 use sample_games::{Draw, SMALL, random_game, random_question};
 use std::alloc::Global;
 use std::test::Fail;

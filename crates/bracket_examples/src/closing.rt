@@ -2,8 +2,8 @@
 //! promise.
 
 use crate::brackets::value_bracket;
-use expectations::same;
 use game_model::{Game, Question, UNIT};
+use sample_games::expectations::same;
 use sample_games::{Draft, coin_game, coin_question, question_with};
 use std::alloc::Global;
 use std::test::Fail;

@@ -5,8 +5,8 @@ ghost use Rattle.game_model.specs.Limits.{unit};
 ghost use Rattle.game_model.specs.Query.{states};
 ghost use Rattle.game_model.specs.Dual.{IsZeroSet};
 
-use expectations::same;
 use game_model::{Marks, Question, UNIT};
+use sample_games::expectations::same;
 use sample_games::plain_guess;
 use std::alloc::Global;
 use std::test::Fail;

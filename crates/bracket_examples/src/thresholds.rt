@@ -7,9 +7,9 @@ ghost use Rattle.game_model.specs.Dual.{IsZeroSet};
 
 use crate::brackets::{bracket_for, value_bracket};
 use distributions::read_number;
-use expectations::{are_more, holds};
 use game_model::{Marks, Question};
 use rpatl_syntax::Bound;
+use sample_games::expectations::{are_more, holds};
 use sample_games::{Draw, SMALL, Shape, random_game, random_question};
 use std::alloc::Global;
 use std::test::Fail;

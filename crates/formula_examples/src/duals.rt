@@ -5,8 +5,8 @@ ghost use Rattle.formula_reader.specs.declared.formula.PathKind.TheVariants.{Alw
 ghost use Rattle.rpatl_syntax.specs.Dual.{IsAtMostOne};
 
 use distributions::Frac;
-use expectations::same;
 use rpatl_syntax::{Bound, Formula, PathKind, dual, print_formula, read_formula};
+use sample_games::expectations::same;
 use std::alloc::Global;
 use std::test::Fail;
 

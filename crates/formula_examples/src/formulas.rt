@@ -1,8 +1,8 @@
 //! Formulas as texts: what is read, how it is printed, and each fault with its place.
 
 use distributions::NumberFault;
-use expectations::same;
 use rpatl_syntax::{FormulaCause, FormulaFault, print_formula, read_formula};
+use sample_games::expectations::same;
 use std::alloc::Global;
 use std::test::Fail;
 

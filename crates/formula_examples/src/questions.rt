@@ -5,11 +5,11 @@ ghost use Rattle.formula_sets.specs.Posing.{IsUntil};
 ghost use Rattle.formula_reader.specs.declared.formula.PathKind.TheVariants.{Next};
 ghost use Rattle.formula_reader.specs.Formula.{IsFlat, tree_of};
 
-use expectations::same;
 use formula_sets::{is_flat, pose, pose_next};
 use game_model::{Game, Side, UNIT};
 use label_reader::{Labels, Owners, read_labels};
 use rpatl_syntax::{Formula, PathKind, read_formula};
+use sample_games::expectations::same;
 use sample_games::one_state;
 use std::alloc::Global;
 use std::test::Fail;

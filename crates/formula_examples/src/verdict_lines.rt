@@ -1,9 +1,9 @@
 //! Verdicts, when a run may stop, and the lines of a report.
 
 use distributions::read_number;
-use expectations::same;
 use game_model::UNIT;
 use rpatl_syntax::Bound;
+use sample_games::expectations::same;
 use std::test::Fail;
 use verdicts::{How, ReportLine, StopRule, Verdict, report_text, settle};
 

@@ -1,7 +1,7 @@
 //! Words, read whole. A line of a test has words that are parted by one space each.
 
 use command_words::{AuditWords, CheckWords, CommandWords, MakeWords, SolveWords, read_words};
-use expectations::same;
+use sample_games::expectations::same;
 use std::alloc::Global;
 use std::test::Fail;
 

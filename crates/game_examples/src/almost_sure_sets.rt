@@ -3,8 +3,8 @@
 ghost use Rattle.std.specs.Prelude.{◌≡◌, length, IfOk};
 
 use almost_sure::almost_sure;
-use expectations::same;
 use game_model::{Game, Question, Side};
+use sample_games::expectations::same;
 use sample_games::{
     chain, coin, coin_loop, goal_or_sink, question_of, question_with_dead, wait_or_coin,
 };

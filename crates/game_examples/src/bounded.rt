@@ -6,9 +6,9 @@ ghost use Rattle.bounded_rounds.specs.Limits.{most_steps};
 ghost use Rattle.round_workers.specs.Share.{most_workers};
 
 use bounded_rounds::{MOST_STEPS, Sweep, bounded, bounded_values};
-use expectations::{holds, same};
 use game_model::{Question, Side, UNIT};
 use game_outside::{Gate, HoldGate, OpenGate};
+use sample_games::expectations::{holds, same};
 use sample_games::{
     all_of, chain, coin_loop, four_states, ladder, question_of, question_of_sides,
     question_with_minimiser_at,

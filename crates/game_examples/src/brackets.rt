@@ -5,11 +5,11 @@ ghost use Rattle.round_workers.specs.Share.{most_workers};
 ghost use Rattle.bracket_engine.specs.Limits.{most_rounds};
 
 use bracket_engine::{Bracket, bracket};
-use expectations::{holds, same};
 use game_model::{Question, Side, UNIT};
 use game_outside::{Gate, HoldGate, OpenGate};
 use reference_values::numerators;
 use rpatl_syntax::Bound;
+use sample_games::expectations::{holds, same};
 use sample_games::{coin_loop, four_states, question_of, question_with_minimiser_at};
 use std::alloc::Global;
 use std::test::Fail;

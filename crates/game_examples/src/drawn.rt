@@ -6,8 +6,8 @@ ghost use Rattle.game_model.specs.Game.{choices_of};
 ghost use Rattle.game_model.specs.Limits.{most_states};
 
 use drawn_game::{Drawn, Draws, draw_game};
-use expectations::same;
 use game_model::{Game, Question, Side};
+use sample_games::expectations::same;
 use std::alloc::{AllocError, Global};
 use std::test::Fail;
 

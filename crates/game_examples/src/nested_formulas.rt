@@ -6,13 +6,13 @@ ghost use Rattle.rpatl_syntax.specs.Spellable.{HasThreshold, IsShare, IsSpellabl
 ghost use Rattle.bracket_engine.specs.Limits.{most_rounds};
 
 use distributions::{Frac, read_number};
-use expectations::{holds, same};
 use game_model::UNIT;
 use game_outside::{Name, OpenGate};
 use label_reader::{Labels, Owners, read_labels};
 use nested_truth::{Nested, nested};
 use rpatl_syntax::{Bound, Formula, PathKind, StateFormula};
 use sample_games::coin_loop;
+use sample_games::expectations::{holds, same};
 use std::alloc::Global;
 use std::test::Fail;
 use std::thread::Threads;

@@ -6,9 +6,9 @@ ghost use Rattle.game_model.specs.Query.{states};
 ghost use Rattle.game_model.specs.Rounded.{IsInductive};
 ghost use Rattle.inductive_check.specs.Replies.{AreReplies};
 
-use expectations::same;
 use game_model::{Game, Question, Side, UNIT};
 use inductive_check::{check_replies, check_upper};
+use sample_games::expectations::same;
 use sample_games::{
     coin_loop, leaky_ring, question_of, question_with_minimiser_at, ring_of_two, stay_or_coin,
 };

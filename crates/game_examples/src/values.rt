@@ -1,8 +1,8 @@
 //! Worked numerators, computed by hand.
 
-use expectations::same;
 use game_model::{Question, Side};
 use reference_values::{ValueFault, numerators};
+use sample_games::expectations::same;
 use sample_games::{coin_loop, four_states, question_of, question_with_minimiser_at};
 use std::alloc::Global;
 use std::test::Fail;

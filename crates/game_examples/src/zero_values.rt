@@ -1,7 +1,7 @@
 //! Worked zero sets.
 
-use expectations::same;
 use game_model::Side;
+use sample_games::expectations::same;
 use sample_games::{chain, goal_or_sink, question_of, question_with_dead};
 use std::alloc::Global;
 use std::test::Fail;

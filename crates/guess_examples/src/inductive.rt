@@ -3,9 +3,9 @@
 ghost use Rattle.std.specs.Prelude.{◌≡◌};
 ghost use Rattle.game_model.specs.Query.{states};
 
-use expectations::same;
 use game_model::{Question, Side, UNIT};
 use inductive_check::{UpperCause, UpperFault, check_replies, check_upper, replies, swap};
+use sample_games::expectations::same;
 use sample_games::{coin_loop, goal_or_sink, question_of};
 use std::alloc::Global;
 use std::test::Fail;

@@ -4,10 +4,10 @@ ghost use Rattle.std.specs.Prelude.{◌≡◌, length, IfOk};
 ghost use Rattle.game_model.specs.Query.{states};
 ghost use Rattle.game_model.specs.Ranks.{Ranked};
 
-use expectations::{holds, same};
 use game_model::{Game, Question, Side, UNIT};
 use lower_guess::{LowerGuess, lower_guess};
 use rank_certificate::{RankPlan, rank_table};
+use sample_games::expectations::{holds, same};
 use sample_games::{chain, coin_loop, four_states, question_of, wait_or_coin};
 use std::alloc::Global;
 use std::test::Fail;

@@ -6,12 +6,12 @@ ghost use Rattle.game_model.specs.Query.{states};
 ghost use Rattle.game_model.specs.Dual.{IsZeroSet};
 
 use crate::plain_ranks::{entry, plain_plan};
-use expectations::{are_more, holds, same};
 use fixed_bellman::down_state;
 use game_model::{Marks, Question, UNIT};
 use inductive_check::check_upper;
 use lower_guess::{LowerGuess, lower_guess};
 use rank_certificate::{RankPlan, rank_table};
+use sample_games::expectations::{are_more, holds, same};
 use sample_games::{Draw, Shape, guess_of_excess, is_below, random_game, random_question, swept};
 use std::alloc::Global;
 use std::test::Fail;

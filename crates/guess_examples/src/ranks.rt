@@ -3,9 +3,9 @@
 ghost use Rattle.std.specs.Prelude.{◌≡◌, length};
 ghost use Rattle.game_model.specs.Query.{states};
 
-use expectations::same;
 use game_model::{Game, Question, Side, UNIT};
 use rank_certificate::{RankCause, RankFault, check_ranks, find_ranks};
+use sample_games::expectations::same;
 use sample_games::{chain, coin_loop, four_states, goal_or_sink, question_of, question_with_dead};
 use std::alloc::Global;
 use std::test::Fail;

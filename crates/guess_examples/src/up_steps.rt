@@ -7,11 +7,11 @@ ghost use Rattle.bracket_engine.specs.Limits.{most_rounds};
 
 use crate::counted::{Counted, guess_by};
 use bracket_engine::bracket_for;
-use expectations::{holds, same};
 use game_model::{Question, Side, UNIT};
 use game_outside::OpenGate;
 use predecessors::Predecessors;
 use rpatl_syntax::Bound;
+use sample_games::expectations::{holds, same};
 use sample_games::{
     Model, agreement_game, agreement_question, chain, coin_game, coin_question, contract,
     question_of, retransmission, robot, shared_coin,

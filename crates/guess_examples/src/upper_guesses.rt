@@ -4,8 +4,8 @@ ghost use Rattle.std.specs.Prelude.{◌≡◌, ◌≤◌, length, All};
 ghost use Rattle.game_model.specs.Limits.{unit};
 ghost use Rattle.game_model.specs.Query.{states};
 
-use expectations::same;
 use game_model::{Question, Side, UNIT};
+use sample_games::expectations::same;
 use sample_games::{coin_loop, four_states, question_of};
 use std::alloc::Global;
 use std::fmt::Display;

@@ -1,7 +1,7 @@
 //! What a comparison of many answers to formulas with others inside came upon, so that it shows something.
 
 use crate::values::Exact;
-use expectations::are_more;
+use sample_games::expectations::are_more;
 use std::test::Fail;
 
 /// What was found.

@@ -11,8 +11,8 @@ ghost use Rattle.game_model.specs.Query.{states};
 
 use crate::searches::{longer, reached};
 use almost_sure::almost_sure;
-use expectations::{are_more, same};
 use game_model::{Question, Side};
+use sample_games::expectations::{are_more, same};
 use sample_games::{Draw, Shape, random_game, random_question};
 use std::alloc::Global;
 use std::test::Fail;

@@ -6,10 +6,10 @@ ghost use Rattle.game_model.specs.Query.{states};
 ghost use Rattle.bounded_rounds.specs.Limits.{most_steps};
 
 use bounded_rounds::{Sweep, bounded};
-use expectations::same;
 use game_model::{Question, UNIT};
 use game_outside::OpenGate;
 use reference_values::numerators;
+use sample_games::expectations::same;
 use sample_games::{Draw, Shape, opening_table, random_game, random_question};
 use std::alloc::Global;
 use std::test::Fail;

@@ -5,10 +5,10 @@ ghost use Rattle.game_model.specs.Limits.{unit};
 ghost use Rattle.game_model.specs.Query.{states};
 
 use crate::end_components::{greatest_end_components, has, stays};
-use expectations::{are_more, same};
 use fixed_bellman::up_choice;
 use game_model::{Question, Side};
 use inductive_check::{check_upper, replies};
+use sample_games::expectations::{are_more, same};
 use sample_games::{Draw, Shape, random_game, random_question, swept_down};
 use std::alloc::Global;
 use std::test::Fail;

@@ -4,11 +4,11 @@ ghost use Rattle.std.specs.Prelude.{◌≡◌, ◌≤◌, length};
 ghost use Rattle.game_model.specs.Query.{states};
 ghost use Rattle.value_words.specs.Passes.{IsOf, Grew};
 
-use expectations::{holds, same};
 use game_model::{Game, Question, UNIT};
 use game_outside::HoldGate;
 use predecessors::Predecessors;
 use round_workers::{first_state, round, worker_of};
+use sample_games::expectations::{holds, same};
 use sample_games::{agreement_game, agreement_question};
 use std::alloc::Global;
 use std::marker::Brand;

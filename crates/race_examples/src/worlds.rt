@@ -2,8 +2,8 @@
 
 ghost use Rattle.std.specs.Prelude.{◌≡◌, length};
 
-use expectations::same;
 use game_model::{Question, UNIT};
+use sample_games::expectations::same;
 use sample_games::{coin_game, coin_question};
 use std::alloc::Global;
 use std::test::Fail;

@@ -1,9 +1,11 @@
-//! Games that tests and measurements share: small ones, games of a known shape, and games that are drawn at random; the
-//! drafts that they are made from, and plain tables over them.
+//! What tests and measurements share: games, small ones, games of a known shape, and games that are drawn at random; the
+//! drafts that they are made from, and plain tables over them; and, in [`expectations`], what a test expects of what it
+//! found.
 #![tactic(auto)]
 
 mod asked_games;
 mod draft;
+pub mod expectations;
 mod games;
 mod plain_tables;
 mod planned;

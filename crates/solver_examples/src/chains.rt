@@ -4,9 +4,9 @@ ghost use Rattle.std.specs.Prelude.{◌≡◌, IfOk, length, vec_len};
 ghost use Rattle.float_games.specs.Nodes.{nodes_of};
 
 use crate::rows::{Way, add_node, finished};
-use expectations::{holds, same};
 use float_games::{Chain, Draft, FloatGame, UNIT};
 use local_values::{Factors, approach};
+use sample_games::expectations::{holds, same};
 use std::alloc::Global;
 use std::num::nearest_usize_to_f64;
 use std::test::Fail;

@@ -3,10 +3,10 @@
 ghost use Rattle.std.specs.Prelude.{◌≡◌, IfOk, length};
 ghost use Rattle.play_components.specs.Division.{states_of};
 
-use expectations::{holds, same};
 use game_model::{Game, Side};
 use play_components::{Components, KeepsAll};
 use predecessors::ChoiceFlags;
+use sample_games::expectations::{holds, same};
 use sample_games::{coin_loop, game_of, question_of};
 use std::alloc::Global;
 use std::test::Fail;

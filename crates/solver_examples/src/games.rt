@@ -5,9 +5,9 @@ ghost use Rattle.float_games.specs.Nodes.{nodes_of};
 
 use crate::chains::{add_gambler, near_shares, ruin};
 use crate::rows::{Way, add_node, finished};
-use expectations::{holds, same};
 use float_games::{Draft, FloatGame, UNIT};
 use local_values::{expected_moves, refine, solve};
+use sample_games::expectations::{holds, same};
 use std::alloc::Global;
 use std::test::Fail;
 

@@ -7,13 +7,13 @@ ghost use Rattle.play_components.specs.Division.{states_of};
 
 use crate::games::solved;
 use crate::rows::finished;
-use expectations::{holds, same};
 use fixed_bellman::{down_state, up_state};
 use float_games::{Bound, Draft, FloatGame};
 use game_model::{Game, Question, Side, UNIT};
 use local_values::refine;
 use play_components::Components;
 use predecessors::{ChoiceFlags, Predecessors};
+use sample_games::expectations::{holds, same};
 use sample_games::{Draw, Shape, game_of, question_of, random_game};
 use std::alloc::Global;
 use std::num::nearest_u64_to_f64;

@@ -1,4 +1,15 @@
-//! Laws of how a run ends. Each function does nothing; its contract is the law.
+//! Laws of the run. Each function does nothing; its contract is the law.
+//!
+//! - [`closing`]: brackets of questions whose plays come to an end close, and how fast.
+//! - [`horizons`]: what printed bounds and verdicts say of the values within k steps.
+//! - [`saved`]: what `check` and `solve` write is no longer than a text may be, and an audit of the same question
+//!   accepts it.
+//!
+//! Here: how a run ends, by its status.
+
+pub mod closing;
+pub mod horizons;
+pub mod saved;
 
 ghost use Rattle.std.specs.Prelude.{ℕ, List, Option};
 ghost use Rattle.game_outside.specs.Outside.{Holding};

@@ -3,11 +3,11 @@
 ghost use Rattle.std.specs.Prelude.{◌≢◌};
 
 use certificate_audit::{AuditFault, audit};
-use expectations::same;
 use game_model::{Game, Question, Side};
 use inductive_check::{UpperCause, UpperFault};
 use plan_text::{Plan, PlanCause, PlanFault};
 use rank_certificate::{RankCause, RankFault};
+use sample_games::expectations::same;
 use sample_games::{coin_loop, goal_or_sink, question_with_dead};
 use std::alloc::Global;
 use std::test::Fail;

@@ -2,8 +2,8 @@
 
 ghost use Rattle.std.specs.Prelude.{◌≡◌, IfOk, length};
 
-use expectations::same;
 use label_reader::{LabCause, LabFault, Labels, Owners, read_labels, read_owners};
+use sample_games::expectations::same;
 use std::alloc::Global;
 use std::test::Fail;
 use text_lines::MOST_BYTES;

@@ -1,7 +1,7 @@
 //! Numbers, fractions and the choices that they make.
 
 use distributions::{NumberFault, Part, compare, make_choice, read_number};
-use expectations::same;
+use sample_games::expectations::same;
 use std::cmp::Ordering;
 use std::test::Fail;
 

@@ -1,10 +1,10 @@
 //! Whole texts over shelves and sinks in memory.
 
-use expectations::{holds, same};
 use game_outside::{
     Gate, HeldFile, HoldGate, LateGate, MemShelf, MemSink, Name, ReadEnd, Shelf, SteadyShelf,
     SteadySink, read_all, write_all,
 };
+use sample_games::expectations::{holds, same};
 use std::alloc::{AllocError, Global};
 use std::test::Fail;
 

@@ -1,7 +1,7 @@
 //! Certificates, read whole.
 
-use expectations::same;
 use plan_text::{Plan, PlanCause, PlanFault, fixed_text, read_plan, write_plan};
+use sample_games::expectations::same;
 use std::alloc::Global;
 use std::test::Fail;
 use text_lines::MOST_BYTES;

@@ -1,8 +1,8 @@
 //! Texts and what they are read as, from outside.
 
 use distributions::{ChoiceFault, NumberFault};
-use expectations::same;
 use game_model::Game;
+use sample_games::expectations::same;
 use std::alloc::{AllocError, Global};
 use std::test::Fail;
 use text_lines::MOST_BYTES;

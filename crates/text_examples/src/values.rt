@@ -1,6 +1,6 @@
 //! Files of values, read whole.
 
-use expectations::same;
+use sample_games::expectations::same;
 use std::alloc::Global;
 use std::test::Fail;
 use text_lines::MOST_BYTES;

@@ -7,8 +7,8 @@ use crate::tables::{
 use crate::{
     Case, Command, FIRST_OF_TWO_PLAYERS, MOST_OF_COIN_LOOP, MOST_OF_LOOP_OR_COIN, Row, runs,
 };
-use expectations::same;
 use game_outside::OpenGate;
+use sample_games::expectations::same;
 use std::alloc::Global;
 use std::test::Fail;
 use std::thread::Threads;

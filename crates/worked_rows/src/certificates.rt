@@ -3,8 +3,8 @@
 use crate::printed_plans::{LOOP_OR_COIN_PLAN, MOST_OF_COIN_LOOP_WITH_PLAN};
 use crate::tables::all_write;
 use crate::{Case, Command, PLAN_OF_LOOP_OR_COIN, PLAN_OF_TWO_PLAYERS};
-use expectations::same;
 use plan_text::{Plan, read_plan};
+use sample_games::expectations::same;
 use std::alloc::Global;
 use std::test::Fail;
 use stogame_app::Status;

@@ -3,8 +3,8 @@
 use crate::models::{OF_THREE_STATES, USAGE};
 use crate::tables::all_write;
 use crate::{Case, Command, ends, words};
-use expectations::{holds, same};
 use game_outside::{Gate, HoldGate, OpenGate, SteadyShelf};
+use sample_games::expectations::{holds, same};
 use std::alloc::Global;
 use std::sync::atomic::{AtomicU32, Ordering};
 use std::test::Fail;

@@ -3,8 +3,8 @@
 use crate::checks::comes_to;
 use crate::tables::{Answer, all_write, answers_write};
 use crate::{Case, Command, MOST_OF_COIN_LOOP, Row, runs};
-use expectations::same;
 use game_outside::{Gate, HoldGate, OpenGate};
+use sample_games::expectations::same;
 use std::alloc::Global;
 use std::test::Fail;
 use std::thread::Threads;

@@ -6,8 +6,8 @@ use crate::traps::{
     GOAL_AT_2, GOAL_AT_3, NO_ROUNDS, SECOND_OWNS_1, STAY_OR_COIN, TO_AND_FRO, TRAPS,
 };
 use crate::{Case, Command, MOST_OF_COIN_LOOP, Row, runs};
-use expectations::holds;
 use game_outside::{HoldGate, OpenGate};
+use sample_games::expectations::holds;
 use std::alloc::Global;
 use std::test::Fail;
 use std::thread::Threads;

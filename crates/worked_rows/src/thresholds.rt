@@ -6,8 +6,8 @@ use crate::{
     COIN_LOOP, Case, Command, MOST_OF_AGREEMENT, MOST_OF_COIN_LOOP, ONE_WORKER, Row, SECOND_OWNS_1,
     runs,
 };
-use expectations::{holds, same};
 use game_outside::OpenGate;
+use sample_games::expectations::{holds, same};
 use std::alloc::Global;
 use std::test::Fail;
 use std::thread::Threads;

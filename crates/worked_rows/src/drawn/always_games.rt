@@ -4,10 +4,10 @@
 use crate::drawn::models::{DrawnModel, MOST_STATES, draw_model};
 use crate::drawn::one_of;
 use crate::{PrintedLine, Row, read_lines, runs};
-use expectations::{holds, same};
 use game_model::{Game, Question, Side, UNIT};
 use game_outside::OpenGate;
 use reference_values::{Staying, bounds_of_staying};
+use sample_games::expectations::{holds, same};
 use sample_games::{Draw, none_of, question};
 use std::alloc::Global;
 use std::test::Fail;

@@ -3,9 +3,9 @@
 use crate::drawn::answers::{answer_in_pieces, answer_of_whole};
 use crate::drawn::texts::{ModelFile, damage, draw_text};
 use crate::file_of_bytes;
-use expectations::{holds, same};
 use game_outside::MemShelf;
 use sample_games::Draw;
+use sample_games::expectations::{holds, same};
 use std::alloc::Global;
 use std::test::Fail;
 

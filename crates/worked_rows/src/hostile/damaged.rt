@@ -11,8 +11,8 @@ use crate::{
     AUDIT_OF_TWO_PLAYERS, COIN_LOOP, COIN_LOOP_REPORT, Command, FIRST_OF_TWO_PLAYERS, GOAL_AT_1,
     MOST_OF_AGREEMENT, MOST_OF_COIN_LOOP, Row, SECOND_OWNS_1, ends, file_of_bytes,
 };
-use expectations::{holds, same};
 use game_outside::{MemShelf, OpenGate};
+use sample_games::expectations::{holds, same};
 use std::alloc::Global;
 use std::test::Fail;
 use std::thread::Threads;

@@ -1,8 +1,8 @@
 //! The first round or step of each run has as many workers as are asked for.
 
 use crate::{MOST_OF_AGREEMENT, Row, ends, runs, words};
-use expectations::{holds, same};
 use game_outside::{Gate, SteadyShelf};
+use sample_games::expectations::{holds, same};
 use std::alloc::Global;
 use std::sync::atomic::{AtomicU32, Ordering};
 use std::test::Fail;

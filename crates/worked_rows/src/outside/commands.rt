@@ -9,9 +9,9 @@ use crate::{
     PLAN_OF_LOOP_OR_COIN, PLAN_OF_TWO_PLAYERS, Row, STATE_OUT_OF_RANGE,
 };
 use command_words::{CheckWords, CommandWords, SolveWords, read_words};
-use expectations::same;
 use formula_sets::is_flat;
 use rpatl_syntax::{Formula, PathKind, read_formula};
+use sample_games::expectations::same;
 use std::alloc::Global;
 use std::test::Fail;
 use stogame_app::Status;

@@ -5,7 +5,7 @@ use crate::{
     CHECK_OF_COIN_LOOP, COIN_LOOP_OUT_OF_ORDER, Case, DRAWN_GAME, Ended, NO_COMMAND, Outside, STEP,
     ends_over,
 };
-use expectations::same;
+use sample_games::expectations::same;
 use std::alloc::Global;
 use std::test::Fail;
 use std::thread::Threads;

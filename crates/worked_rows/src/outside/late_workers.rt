@@ -2,8 +2,8 @@
 
 use crate::outside::workers::agrees;
 use crate::{MOST_OF_AGREEMENT, Row, runs};
-use expectations::{holds, same};
 use game_outside::LateGate;
+use sample_games::expectations::{holds, same};
 use std::alloc::Global;
 use std::test::Fail;
 use std::thread::Threads;

@@ -7,9 +7,9 @@ use crate::{
     COIN_LOOP, COIN_LOOP_REPORT, Case, Command, FIRST_IS_TRUE, FIRST_OF_TWO_PLAYERS, GOAL_AT_1,
     MOST_OF_COIN_LOOP, ONE_WORKER, Row, SECOND_OWNS_1, file, push_times,
 };
-use expectations::{holds, same};
 use game_outside::{FileEnd, MemShelf};
 use label_reader::{read_labels_from, read_owners_from};
+use sample_games::expectations::{holds, same};
 use std::alloc::Global;
 use std::test::Fail;
 use std::thread::Threads;

@@ -4,8 +4,8 @@ ghost use Rattle.std.specs.Prelude.{None, false};
 
 use crate::outside::commands::commands;
 use crate::{Case, ends};
-use expectations::same;
 use game_outside::{Failed, OpenGate, Shelf, SteadyShelf};
+use sample_games::expectations::same;
 use std::alloc::Global;
 use std::test::Fail;
 use std::thread::Threads;

@@ -1,8 +1,8 @@
 //! Rounds and workers.
 
 use crate::{COIN_LOOP_REPORT, MOST_OF_AGREEMENT, MOST_OF_COIN_LOOP, Row, runs, writes};
-use expectations::{holds, same};
 use game_outside::{Gate, HoldGate, OpenGate};
+use sample_games::expectations::{holds, same};
 use std::alloc::Global;
 use std::sync::atomic::{AtomicU32, Ordering};
 use std::test::Fail;

@@ -1,7 +1,7 @@
 use Rattle.std.specs.Prelude.{slice_index}
 use Rattle.strategies.proofs.Stopping.{closes}
-use Rattle.report_laws.proofs.Closeness.{printed-close}
-use Rattle.report_laws.proofs.closing.printed_brackets_close.Goals as goal
+use Rattle.stogame_app.proofs.Closeness.{printed-close}
+use Rattle.stogame_app.proofs.laws.closing.printed_brackets_close.Goals as goal
 
 pub returns : goal.returns
 returns c = λ q initial f check text status report n j stopping enough.

@@ -2,7 +2,6 @@
 //!
 //! An assertion ends the process, and each one is proved with its text at the place where it stands. These are proved
 //! once; a test hands their errors on with `?`, and with them the words that tell its rows apart.
-#![tactic(auto)]
 
 ghost use Rattle.std.specs.Prelude.{◌≡◌, ◌↔◌, ◌<◌, IsOk, IsTrue, true};
 

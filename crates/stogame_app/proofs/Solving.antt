@@ -22,7 +22,7 @@ use Rattle.run_answers.proofs.ShortSpellings.{spelling-short}
 use Rattle.question_reports.specs.Solved.{IsSolved}
 use Rattle.question_reports.proofs.ShortReports.{solved-text-short}
 use Rattle.question_reports.proofs.Accepting.{AreCertificates, solved-accepted}
-use Rattle.report_laws.proofs.Saving.{AreFew, AreSpellable, initial-few}
+use Rattle.stogame_app.proofs.Saving.{AreFew, AreSpellable, initial-few}
 
 -- words that denote a `solve` denote no other command
 abbrev OneSolve : Solve → Command → Type 0

@@ -1,4 +1,0 @@
-mod Saving
-mod Solving
-pub mod Closeness
-pub mod Plans
