@@ -225,6 +225,7 @@ module _ (m : Model) (game : IsGame m.game) (asked : ℕ) (f : Tree) (left right
     pub nested-of : All (λ s. s < states m) starts → (inner undecided : ℕ) → inner ≡ left.inner + right.inner
         → undecided ≡ left.undecided + right.undecided → IsNested m f starts asked band how inner undecided
     nested-of inside inner undecided inner_is undecided_is = record {
+      is_game = game;
       left = h.bands;
       right = i.bands;
       left_found = h.found;

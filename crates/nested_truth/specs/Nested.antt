@@ -1,5 +1,6 @@
 -- The answer to a formula with formulas inside.
 use Rattle.std.specs.Prelude.{◌≡◌, ◌<◌, ◌+◌, ℕ, List, All}
+use Rattle.game_model.specs.Game.{IsGame}
 use Rattle.formula_reader.specs.Formula.{Tree, formulas_inside}
 use Rattle.verdicts.specs.declared.report.How.{How}
 use Rattle.verdicts.specs.declared.verdict.Verdict.TheVariants.{Undecided}
@@ -16,6 +17,7 @@ use Rattle.formula_truth.specs.Sound.{IsAround, AreSoundBy, IsRightOf}
 -- threshold is settled.
 pub record IsNested (m : Model) (f : Tree) (starts : List ℕ) (asked : ℕ) (band : Band) (how : How)
     (inner undecided : ℕ) : Type 0 where
+  pub is_game : IsGame m.game
   pub left : Bands f.left
   pub right : Bands f.right
   pub left_found : AreFound m asked f.left left

@@ -42,6 +42,7 @@ pub audited : {X E : Type 0} (text : X → List ℕ) (ends : X → Status) (q : 
     → IfOk result (λ answer. ends answer ≡ status_of (map (plan_line f Audited plan) initial))
     → IfOk result (λ answer. IsAudited q initial f plan (text answer) (ends answer))
 audited text ends q posed initial f plan inside sound lines left_open (Ok answer) written ended = record {
+  posed = posed;
   told = told q posed f plan sound Audited initial _ inside ended;
   written = written;
   lines = lines;

@@ -1,6 +1,6 @@
 -- The answer of an audit: a report of the initial states from a certificate that is accepted.
 use Rattle.std.specs.Prelude.{◌≡◌, ℕ, false, List, slice_index, All}
-use Rattle.game_model.specs.Query.{Query}
+use Rattle.game_model.specs.Query.{Query, IsQuery}
 use Rattle.formula_reader.specs.Formula.{Tree}
 use Rattle.plan_text.specs.declared.plan.Plan.{Plan}
 use Rattle.certificate_audit.specs.Accepted.{IsAccepted}
@@ -17,6 +17,7 @@ use Rattle.question_reports.specs.Valued.{IsTold}
 -- certificate is that of the dual.
 pub record IsAudited (q : Query) (initial : List ℕ) (f : Tree) (plan : Plan) (text : List ℕ)
     (status : Status) : Type 0 where
+  pub posed : IsQuery q
   pub told : IsTold q initial f plan (output_of false f Audited initial plan).lines status
   pub written : text ≡ report (output_of false f Audited initial plan).lines
   pub lines : All IsLine (output_of false f Audited initial plan).lines

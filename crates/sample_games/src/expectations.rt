@@ -1,4 +1,4 @@
-//! What a test expects of what it found, as errors that say both.
+//! Comparisons for tests, whose errors say what was found and what was expected.
 //!
 //! An assertion ends the process, and each one is proved with its text at the place where it stands. These are proved
 //! once; a test hands their errors on with `?`, and with them the words that tell its rows apart.

@@ -1,6 +1,5 @@
-//! What tests and measurements share: games, small ones, games of a known shape, and games that are drawn at random; the
-//! drafts that they are made from, and plain tables over them; and, in [`expectations`], what a test expects of what it
-//! found.
+//! What tests share: games, small ones, games of a known shape, and games that are drawn at random; the drafts that they
+//! are made from, and plain tables over them; and [`expectations`], comparisons whose errors say what was found.
 #![tactic(auto)]
 
 mod asked_games;

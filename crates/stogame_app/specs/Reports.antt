@@ -25,9 +25,8 @@ use Rattle.question_reports.specs.Sure.{IsSure}
 use Rattle.stogame_app.specs.Status.{sure_status}
 use Rattle.stogame_app.specs.Commands.{check_paths}
 
--- the words denote this command, and spell this formula, which is so the one that poses the problem; there are texts,
--- those that are held where this is told, that pose this problem with them; and no more than the limit was taken of the
--- last one
+-- the words denote this command; with texts, those that are held where this is told, what it asks poses this problem,
+-- by this formula; and no more bytes than the limit were taken of the last one
 pub record WordsPose (words : List (List ℕ)) (holding : Option Holding) (taken : ℕ) (command : Command) (asked : Asked)
     (paths : Paths) (problem : Problem) (formula : Tree) : Type 0 where
   pub denoted : AreCommand words command

@@ -28,7 +28,7 @@ abbrev pub IsLong : Refusal → Type 0
 IsLong refusal = (text : Text) × (refusal ≡ TooLong text)
 
 -- the words denote a command of which this is the first refusal, and not for want of memory; it says that a text is too
--- long where this many bytes were taken of the last one
+-- long exactly where more bytes than the limit were taken of the last one
 pub record RefusesWords (words : List (List ℕ)) (holding : Option Holding) (taken : ℕ)
     (refusal : Refusal) : Type 0 where
   pub command : Command

@@ -9,7 +9,7 @@ use Rattle.fractions.specs.Fraction.{Fraction}
 use Rattle.formula_reader.specs.declared.formula.Bound.{Bound}
 use Rattle.formula_reader.specs.declared.formula.Bound.TheVariants.{AtLeast, Above, AtMost, Below, AskMax, AskMin}
 
--- n/d units, less r units, are below p, or at most p
+-- n/d units, less r units, are below p
 abbrev pub IsBelowLess : Fraction → ℕ → ℕ → ℕ → Type 0
 IsBelowLess p n d r = n * p.den < (p.num * unit + r * p.den) * d
 
@@ -17,7 +17,7 @@ IsBelowLess p n d r = n * p.den < (p.num * unit + r * p.den) * d
 abbrev pub IsAtMostLess : Fraction → ℕ → ℕ → ℕ → Type 0
 IsAtMostLess p n d r = n * p.den ≤ (p.num * unit + r * p.den) * d
 
--- n/d units, and r units more, are at least p, or above p
+-- n/d units, and r units more, are at least p
 abbrev pub IsAtLeastMore : Fraction → ℕ → ℕ → ℕ → Type 0
 IsAtLeastMore p n d r = p.num * unit * d ≤ (n + r * d) * p.den
 

@@ -1,4 +1,4 @@
-//! Commands with what they write, for tests of the outside.
+//! Commands with what they write.
 
 use crate::commands::Command;
 use crate::models::{

@@ -1,4 +1,4 @@
-//! Commands over files that come in pieces, with calls that fail.
+//! Commands over rows, run as they stand, over files that come in pieces, or with calls that fail.
 
 ghost use Rattle.std.specs.Prelude.{◌<◌};
 

@@ -1,4 +1,4 @@
-//! Words, texts and models that are drawn by lot, the same in each run, read and run, and compared with plain readings
+//! Words, texts and models that are drawn at random, the same in each run, read and run, and compared with plain readings
 //! and plain values.
 
 ghost use Rattle.std.specs.Prelude.{◌<◌, length};

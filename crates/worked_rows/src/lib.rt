@@ -1,10 +1,11 @@
 //! Tests of `run`, from the words and the files to the written text.
 //!
-//! A row names a model, a formula, the text that is written and the status. `hostile` has the texts that are refused or
-//! damaged, `outside` an outside that fails, is late or comes in pieces, and `drawn` what is drawn by lot; the other
-//! files have worked examples, a topic each, and the models, commands and checks that all of them share. Expected values
-//! were worked out by hand or by a program apart from this one; what is drawn is compared with plain readings and plain
-//! values.
+//! A case has a command over a row (a model, a formula and numbers), the text that is written and the status. `hostile`
+//! has the texts that are refused or damaged, `outside` an outside that fails, is late or comes in pieces, and `drawn`
+//! what is drawn at random; the other files have worked examples, a topic each, and the models, commands and checks that
+//! all of them share. Expected values were worked out by hand or by a program apart from this one; what is drawn is
+//! compared with plain readings and plain values, and a text in pieces with the same text whole. Some of this calls
+//! readers, or the real files and the real writer, without `run`.
 //!
 //! All of this is one crate, since each program of tests over `run` links all of it before the first test is proved.
 #![tactic(auto)]

@@ -13,7 +13,7 @@ use verdicts::laws::verdicts_are_true;
 
 /// Each lower bound of a sound plan, less any 1/m, is at most some k-step value, and each upper bound at least every
 /// one; and what the verdict of its bounds says holds of the k-step values.
-pub fn sound_plans_bound_every_horizon()
+pub fn sound_plans_bound_k_step_values()
     ensures near { (q : Query) (plan : Plan) → IsQuery q → IsSoundPlan q plan
         → IsNear q (slice_index plan.lower.items) }
     ensures high { (q : Query) (plan : Plan) → IsQuery q → IsSoundPlan q plan

@@ -1,7 +1,7 @@
 use Rattle.std.specs.Prelude.{slice_index}
 use Rattle.strategies.proofs.Plans.{against-near, against-reached}
 use Rattle.stogame_app.proofs.Plans.{is-told}
-use Rattle.stogame_app.proofs.laws.horizons.sound_plans_bound_every_horizon.Goals as goal
+use Rattle.stogame_app.proofs.laws.horizons.sound_plans_bound_k_step_values.Goals as goal
 
 pub returns-clause-near : goal.returns-clause-near
 returns-clause-near c =
