@@ -1,5 +1,5 @@
 -- The grammar of formulas, read from the left: the tree that tokens spell and the tokens behind it, or the first fault.
-use Rattle.std.specs.Prelude.{ℕ, zero, suc, ◌||◌, nat_lt, Bool, List, [], ◌∷◌, length}
+use Rattle.std.specs.Prelude.{ℕ, zero, suc, ◌||◌, nat_lt, Bool, false, List, [], ◌∷◌, length, ◌-◌}
 use Rattle.std.specs.Prelude.{Option, Some, None, Result, Ok, Err, if◌then◌else◌, bytes_eq, codes}
 use Rattle.fractions.specs.Fraction.{Fraction}
 use Rattle.fractions.specs.declared.number.NumberFault.{NumberFault}

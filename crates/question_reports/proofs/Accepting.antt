@@ -1,5 +1,5 @@
 -- The certificate of a report is accepted.
-use Rattle.std.proofs.Common.{◌≡◌, ◌∙◌, ℕ, Bool, true, false, cond, List, length, Ok, refl, ap, subst}
+use Rattle.std.proofs.Common.{◌≡◌, ◌∙◌, ℕ, Bool, true, false, cond, List, length, map, Ok, refl, ap, subst}
 use Rattle.std.specs.Prelude.{◌&&◌, IsSome}
 use Rattle.game_model.specs.Game.{Distribution}
 use Rattle.game_model.specs.Query.{Query, states}

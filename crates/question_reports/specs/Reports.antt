@@ -6,6 +6,7 @@ use Rattle.game_model.specs.Rounded.{IsBelow, IsInductive}
 use Rattle.game_model.specs.Bounds.{IsHigh}
 use Rattle.game_model.specs.Dual.{IsZeroSet}
 use Rattle.inductive_check.specs.Replies.{AreReplies, HoldsUnder}
+use Rattle.formula_reader.specs.declared.formula.Bound.{Bound}
 use Rattle.formula_reader.specs.Formula.{Tree}
 use Rattle.plan_text.specs.declared.plan.Plan.{Plan}
 use Rattle.plan_text.specs.Entries.{HasStates}

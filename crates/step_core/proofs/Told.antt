@@ -1,5 +1,5 @@
 -- An event is lawful exactly where there is no reason against it.
-use Rattle.std.proofs.Common.{◌≡◌, ℕ, ◌<◌, ◌≤◌, Bool, true, false, List, [], ◌∷◌, length, arith, refl, sym, ap}
+use Rattle.std.proofs.Common.{◌≡◌, ◌≢◌, ℕ, ◌<◌, ◌≤◌, Bool, true, false, List, [], ◌∷◌, length, arith, refl, sym, ap}
 use Rattle.std.proofs.Common.{◌∙◌, subst, ne_eqb, eq-eqb, inl, inr, ◌⊎◌}
 use Rattle.std.specs.Prelude.{slice_index, ◌==◌, ◌||◌, not, Option, Some, None, IsSome, is_none, nat_lt, nat_le}
 use Rattle.std.specs.Prelude.{if◌then◌else◌, Result, Ok, Err, OnOk, IfErr}

@@ -10,7 +10,7 @@ use Rattle.game_model.specs.Limits.{unit}
 use Rattle.game_model.specs.Rounded.{down_step, down_steps, opening, IsBelow}
 use Rattle.game_model.proofs.Choices.{AreChoicesOf, AreChoicesOf-choices_of}
 use Rattle.game_laws.proofs.Steps.{down_step-le, down_steps-rises}
-use Rattle.step_core.specs.Word.{value_in, choice_in, value_at, values_of, picks_of, opening_words}
+use Rattle.step_core.specs.Word.{packed, value_in, choice_in, value_at, values_of, picks_of, opening_words}
 use Rattle.step_core.specs.Word.{opening_word}
 use Rattle.step_core.specs.Sound.{AreSoundWords, Sees}
 use Rattle.fixed_bellman.specs.Given.{IsFree, IsGivenBy}

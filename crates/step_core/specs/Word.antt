@@ -2,7 +2,7 @@
 use Rattle.std.specs.Prelude.{ℕ, ◌+◌, ◌*◌, ◌/◌, ◌%◌, Bool, List, [], ◌∷◌, map, slice_index, Option, Some, if◌then◌else◌}
 use Rattle.std.specs.Prelude.{nat_lt}
 use Rattle.game_model.specs.Limits.{unit}
-use Rattle.game_model.specs.Query.{Query}
+use Rattle.game_model.specs.Query.{Query, is_goal}
 
 -- how many choices a word can name: its low 14 bits, below a value of at most 50
 abbrev pub choice_space : ℕ

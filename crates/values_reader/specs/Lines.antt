@@ -1,6 +1,6 @@
 -- A line of a file of values: one number, or a state and a number.
-use Rattle.std.specs.Prelude.{ℕ, ◌==◌, ◌&&◌, ◌||◌, ◌-◌, nat_le, Bool, false, List, [], ◌∷◌, length, take, drop}
-use Rattle.std.specs.Prelude.{slice_index, Option, Some, None, is_some, if◌then◌else◌}
+use Rattle.std.specs.Prelude.{ℕ, ◌==◌, ◌&&◌, ◌||◌, ◌-◌, ◌+◌, nat_le, Bool, false, List, [], ◌∷◌, length, take, drop}
+use Rattle.std.specs.Prelude.{position, slice_index, Option, Some, None, is_some, option_map, if◌then◌else◌}
 use Rattle.std.specs.Float.Parse.{is_float_text}
 use Rattle.text_lines.specs.Text.{fields_of, number_of}
 use Rattle.text_lines.specs.Parts.{split_first}

@@ -1,4 +1,4 @@
-use Rattle.std.proofs.Common.{ℕ, ◌<◌}
+use Rattle.std.proofs.Common.{ℕ, ◌<◌, ◌≤◌}
 use Rattle.std.specs.Prelude.{slice_index}
 use Rattle.upper_guess.specs.Guess.{excess, AreRefused, AreWitnesses}
 use Rattle.upper_guess.proofs.guess_with.Given as goal

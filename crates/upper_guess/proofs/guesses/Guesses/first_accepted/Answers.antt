@@ -1,4 +1,4 @@
-use Rattle.std.proofs.Common.{ℕ, ◌+◌, ◌<◌, ◌≤◌, arith, le_refl, ◌∙◌}
+use Rattle.std.proofs.Common.{ℕ, ◌+◌, ◌<◌, ◌≤◌, arith, le_refl, sym, subst, ◌∙◌}
 use borrow.Author.Count.{below_more}
 use Rattle.std.specs.Prelude.{slice_index, slice_set, List, IfSome, Option, Some, None}
 use Rattle.std.specs.Global.{Vec}
