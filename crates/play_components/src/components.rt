@@ -1,6 +1,6 @@
 //! The components of a question.
 
-ghost use Rattle.std.specs.Prelude.{◌≡◌, ℕ, ◌+◌, ◌-◌, ◌<◌, IfOk, EachIndex, length, slice_index};
+ghost use Rattle.std.specs.Prelude.{◌≡◌, ℕ, ◌+◌, ◌-◌, ◌<◌, IfOk, IsTrue, EachIndex, length, slice_index};
 ghost use Rattle.game_model.specs.Query.{states};
 ghost use Rattle.play_components.specs.Division.{states_of, begin, members_of, IsPartition};
 ghost use Rattle.play_components.specs.Order.{IsPlayOrder};
@@ -96,4 +96,45 @@ impl Components {
         let end = self.lists.starts[component as usize + 1];
         &self.lists.members[begin as usize..end as usize]
     }
+}
+
+/// For each state the number of its component, as [`Components::of_question`] finds it, without the lists of members. All
+/// are below the number of states. The only error is want of memory.
+pub fn component_numbers<K: Keeps>(
+    alloc: Global,
+    question: &Question,
+    kept: &K,
+) -> Result<Vec<u32>, OutOfMemory>
+    requires { K.fits kept.now question.now }
+    ensures many { IfOk result (λ l. length l.items ≡ states question.now) }
+    ensures below { IfOk result (λ l. (s : ℕ) → s < states question.now → slice_index l.items s < states question.now) }
+    ensures order { IfOk result (λ l. IsPlayOrder question.now (K.kept kept.now question.now) l.items) }
+{
+    let states = question.game().states();
+    let search = Search::of_question(alloc, question, kept)?;
+    if all_below(&search.component, states) && is_play_order(question, kept, &search.component) {
+        return Ok(search.component);
+    }
+    zeros(alloc, states)
+}
+
+/// Whether all entries are below this number.
+fn all_below(list: &[u32], bound: u32) -> bool
+    ensures { IsTrue result → ((k : ℕ) → k < length list.now → slice_index list.now k < bound) }
+{
+    for place in 0..list.len() {
+        if list[place] >= bound {
+            return false;
+        }
+    }
+    true
+}
+
+/// So many zeros.
+fn zeros(alloc: Global, count: u32) -> Result<Vec<u32>, OutOfMemory>
+    ensures many { IfOk result (λ l. length l.items ≡ count) }
+    ensures zero { IfOk result (λ l. (k : ℕ) → slice_index l.items k ≡ 0) }
+{
+    let list = vec![in alloc; 0u32; count as usize]?;
+    Ok(list)
 }

@@ -1,7 +1,7 @@
 //! The strongly connected components of the states of a question, in the order of play (Tarjan, Depth-first search and
 //! linear graph algorithms, 1972).
 //!
-//! [`Components::of_question`] finds them over the choices that are kept. [`Keeps`] is what keeps choices; [`KeepsAll`]
+//! [`Components::of_question`] finds them over the choices that are kept, and [`component_numbers`] their numbers alone. [`Keeps`] is what keeps choices; [`KeepsAll`]
 //! keeps every one, and the flags of choices keep those that are flagged. Each state stands in exactly one component,
 //! and the successors of a state by a kept choice stand in its component or in earlier ones (`specs/Order.antt`): who
 //! goes over the components in their order finds all that a component leads to done.
@@ -18,5 +18,5 @@ mod lists;
 mod order;
 mod search;
 
-pub use components::Components;
+pub use components::{Components, component_numbers};
 pub use keeps::{Keeps, KeepsAll};

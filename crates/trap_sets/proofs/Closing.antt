@@ -7,8 +7,8 @@ use Rattle.game_model.specs.declared.game.Side.TheVariants.{Min}
 use Rattle.game_model.specs.Query.{Query, states, side_at}
 use Rattle.fixed_bellman.specs.Given.{IsFree}
 use Rattle.trap_sets.specs.Ends.{IsTrap, AreTraps, numbered}
-use Rattle.strong_components.specs.Moves.{IsCut}
-use Rattle.strong_components.specs.Parts.{Stays}
+use Rattle.trap_sets.specs.Moves.{IsCut}
+use Rattle.trap_sets.specs.inside.Parts.{Stays}
 
 -- a state of a numbered set is neither goal nor dead, and a reply of the minimiser stays in it
 pub record IsClosed (q : Query) (replies : List (Option ℕ)) (of : List ℕ) : Type 0 where

@@ -1,15 +1,15 @@
--- The last removal: parts whose states reach each other, less the states that have no inner choice, are end components.
-use Rattle.std.proofs.Common.{◌≡◌, ◌≢◌, ℕ, zero, suc, ◌-◌, ◌<◌, true, List, arith, refl, sym, ◌∙◌, subst, inl, inr}
+-- Parts whose states reach each other, less the states that have no inner choice, are end components.
+use Rattle.std.proofs.Common.{◌≡◌, ◌≢◌, ℕ, zero, suc, ◌-◌, ◌<◌, true, List, length, arith, sym, ◌∙◌, subst, inl, inr}
 use Rattle.std.proofs.Common.{Option}
 use Rattle.std.specs.Prelude.{slice_index}
-use Rattle.std.proofs.lemmas.Bool.{cases_eq, eq-eqb, eqb-true}
+use Rattle.std.proofs.lemmas.Bool.{cases_eq}
+use Rattle.game_model.specs.Game.{choices_of}
 use Rattle.game_model.specs.Query.{Query, states}
-use Rattle.trap_sets.specs.Ends.{IsEndComponent, numbered}
-use Rattle.strong_components.specs.Moves.{Walk}
-use Rattle.strong_components.specs.Parts.{IsInner, IsStep, Comes, IsRooted}
-use Rattle.trap_sets.specs.inside.Settled.{KeepsEnds, HaveInner, AreJoined, AreSettled}
-use Rattle.trap_sets.proofs.Listing.{listed-by, inner-listed, listed-inner, walk-listed}
-use Rattle.strong_components.proofs.Marking.{within}
+use Rattle.trap_sets.specs.Moves.{Walk}
+use Rattle.trap_sets.specs.inside.Parts.{IsInner, IsStep, Comes, IsRooted}
+use Rattle.trap_sets.specs.inside.Settled.{KeepsEnds, AreJoined, AreSettled, IsKept}
+use Rattle.trap_sets.proofs.Keeping.{ends-inner}
+use Rattle.trap_sets.proofs.Zeros.{within}
 
 -- a state that comes to another has an inner choice
 first-step : (q : Query) (replies : List (Option ℕ)) (part : List ℕ) (n s t : ℕ) → Walk (IsStep q replies part) n s t
@@ -20,63 +20,52 @@ first-step q replies part (suc n) s t walk other =
     (step.choice, step.inner)
 
 module _ (q : Query) (replies : List (Option ℕ)) (class part : List ℕ) (h : KeepsEnds q replies class)
-    (rooted : IsRooted class) (joined : AreJoined q replies class)
-    (k : KeepsEnds q replies part) (refines : (s : ℕ) → slice_index part s ≢ 0
-    → slice_index part s ≡ slice_index class s) (have : HaveInner q replies part) where
+    (rooted : IsRooted class) (joined : AreJoined q replies class) (many : length part ≡ states q)
+    (each : (s : ℕ) → s < states q → IsKept q replies class s (slice_index part s)) where
+  inside : (s : ℕ) → slice_index part s ≢ 0 → s < states q
+  inside s some = omega (arith, within part s some, many)
+
+  refines : (s : ℕ) → slice_index part s ≢ 0 → slice_index part s ≡ slice_index class s
+  refines s some = elim (each s (inside s some)) [
+    | inl lost ↦ absurd (some lost.0)
+    | inr kept ↦ kept.0
+  ]
+
+  inner-was : (s : ℕ) → slice_index part s ≢ 0 → (c : ℕ) × IsInner q replies class s c
+  inner-was s some = elim (each s (inside s some)) [
+    | inl lost ↦ absurd (some lost.0)
+    | inr kept ↦ kept.1
+  ]
+
   live : (s : ℕ) → slice_index part s ≢ 0 → slice_index class s ≢ 0
   live s some none = some (refines s some ∙ none)
 
-  inner-was : (s : ℕ) → slice_index part s ≢ 0 → (c : ℕ) × IsInner q replies class s c
-  inner-was s some =
-      let one : (c : ℕ) × IsInner q replies part s c = have s (omega (arith, within part s some, k.many)) some in (
-        one.0,
-        record {
-          cut = one.1.cut;
-          stays = λ t leads.
-              let same : slice_index part t ≡ slice_index part s = one.1.stays t leads in
-              sym (refines t (λ none. some (sym same ∙ none))) ∙ same ∙ refines s some;
-        },
-      )
+  -- a state that comes to another has kept its part
+  whole : (s t : ℕ) → slice_index part s ≢ 0 → slice_index class t ≡ slice_index class s → slice_index part t ≢ 0
+  whole s t some same =
+      let there : slice_index class t ≢ 0 = λ none. live s some (sym same ∙ none) in
+      elim (each t (omega (arith, within class t there, h.many))) [
+        | inr kept ↦ λ none. there (sym kept.0 ∙ none)
+        | inl lost ↦ elim (cases_eq t s) [
+          | inl here ↦
+              let one : (c : ℕ) × IsInner q replies class s c = inner-was s some in
+              absurd (lost.1 one.0 (subst (λ u. IsInner q replies class u one.0) (sym here) one.1))
+          | inr other ↦
+              let comes : Comes q replies class t s = joined t s there same in
+              let one : (c : ℕ) × IsInner q replies class t c = first-step q replies class comes.0 t s comes.1 other in
+              absurd (lost.1 one.0 one.1)
+        ]
+      ]
 
-  module _ (s : ℕ) (some : slice_index part s ≢ 0) where
-    of : (u : ℕ) → numbered class (slice_index class s) u ≡ true → slice_index class u ≡ slice_index class s
-    of u is = eqb-true (slice_index class u) (slice_index class s) is
+  kept-number : (s : ℕ) (c : ℕ) → s < states q → IsInner q replies class s c → slice_index part s ≡ slice_index class s
+  kept-number s c ls inner = elim (each s ls) [
+    | inl lost ↦ absurd (lost.1 c inner)
+    | inr kept ↦ kept.0
+  ]
 
-    member : (u : ℕ) → numbered class (slice_index class s) u ≡ true → slice_index class u ≢ 0
-    member u is none = live s some (sym (of u is) ∙ none)
-
-    inside : (u : ℕ) → numbered class (slice_index class s) u ≡ true → u < states q
-    inside u is = omega (arith, within class u (member u is), h.many)
-
-    chosen : (u : ℕ) → numbered class (slice_index class s) u ≡ true → (c : ℕ) × IsInner q replies class u c
-    chosen u is = elim (cases_eq u s) [
-      | inl same ↦ subst (λ x. (c : ℕ) × IsInner q replies class x c) (sym same) (inner-was s some)
-      | inr other ↦
-          let comes : Comes q replies class u s = joined u s (member u is) (of u is) in
-          first-step q replies class comes.0 u s comes.1 other
-    ]
-
-    -- the class of a state that has kept its part is an end component
-    component : IsEndComponent q replies (numbered class (slice_index class s)) (listed-by q replies class)
-    component = record {
-      some = (s, eq-eqb (slice_index class s) (slice_index class s) refl);
-      inside = inside;
-      free = λ u is. h.free u (inside u is) (member u is);
-      chosen = λ u is.
-          let at : (c : ℕ) × IsInner q replies class u c = chosen u is in
-          (at.0, at.1.cut.inside, inner-listed q replies class u at.0 at.1);
-      cut = λ u c is lc listed. (listed-inner q replies class u c lc listed).cut;
-      closed = λ u c t is lc listed leads. eq-eqb (slice_index class t) (slice_index class s)
-          ((listed-inner q replies class u c lc listed).stays t leads ∙ of u is);
-      joined = λ u t is is'.
-          let comes : Comes q replies class u t = joined u t (member u is) (of u is ∙ sym (of t is')) in
-          (comes.0, walk-listed q replies class comes.0 u t comes.1);
-    }
-
-    -- so all states of the class have kept theirs
-    whole : (t : ℕ) → slice_index class t ≡ slice_index class s → slice_index part t ≢ 0
-    whole t same = k.kept (numbered class (slice_index class s)) (listed-by q replies class) component t
-        (eq-eqb (slice_index class t) (slice_index class s) same)
+  stays-now : (s t : ℕ) → slice_index part s ≢ 0 → slice_index class t ≡ slice_index class s
+      → slice_index part t ≡ slice_index part s
+  stays-now s t some same = refines t (whole s t some same) ∙ same ∙ sym (refines s some)
 
   walk-now : (n s t : ℕ) → slice_index part s ≢ 0 → Walk (IsStep q replies class) n s t
       → Walk (IsStep q replies part) n s t
@@ -86,23 +75,38 @@ module _ (q : Query) (replies : List (Option ℕ)) (class part : List ℕ) (h : 
       let now : IsStep q replies part s walk.0 = record {
         choice = step.choice;
         state = step.state;
-        inner = record {
-          cut = step.inner.cut;
-          stays = λ u leads. refines u (whole s some u (step.inner.stays u leads)) ∙ step.inner.stays u leads
-              ∙ sym (refines s some);
-        };
+        inner = record { cut = step.inner.cut; stays = λ u leads. stays-now s u some (step.inner.stays u leads) };
         leads = step.leads;
       } in
-      (walk.0, now, walk-now n walk.0 t (whole s some walk.0 (step.inner.stays walk.0 step.leads)) walk.2)
+      (walk.0, now, walk-now n walk.0 t (whole s walk.0 some (step.inner.stays walk.0 step.leads)) walk.2)
 
-  pub AreSettled-trimmed : AreSettled q replies part
-  AreSettled-trimmed = record {
-    keeps = k;
+  pub AreSettled-kept : AreSettled q replies part
+  AreSettled-kept = record {
+    keeps = record {
+      many = many;
+      free = λ s ls some. h.free s ls (live s some);
+      kept = λ member listed component s in' none.
+          let one : (c : ℕ) × (c < length (choices_of q.game s)) × (listed s c ≡ true) = component.chosen s in' in
+          h.kept member listed component s in' (sym (kept-number s one.0 (component.inside s in')
+          (ends-inner q replies class member listed s one.0 h component in' one.1 one.2)) ∙ none);
+      joined = λ member listed component s t in' in''.
+          let one : (c : ℕ) × (c < length (choices_of q.game s)) × (listed s c ≡ true) = component.chosen s in' in
+          let two : (c : ℕ) × (c < length (choices_of q.game t)) × (listed t c ≡ true) = component.chosen t in'' in
+          kept-number s one.0 (component.inside s in')
+          (ends-inner q replies class member listed s one.0 h component in' one.1 one.2)
+          ∙ h.joined member listed component s t in' in''
+          ∙ sym (kept-number t two.0 (component.inside t in'')
+          (ends-inner q replies class member listed t two.0 h component in'' two.1 two.2));
+    };
     rooted = λ s some.
         let root : slice_index class (slice_index class s - 1) ≡ slice_index class s = rooted s (live s some) in
         subst (λ x. slice_index part (x - 1) ≡ x) (sym (refines s some))
-        (refines (slice_index class s - 1) (whole s some (slice_index class s - 1) root) ∙ root);
-    inner = have;
+        (refines (slice_index class s - 1) (whole s (slice_index class s - 1) some root) ∙ root);
+    inner = λ s ls some.
+        let one : (c : ℕ) × IsInner q replies class s c = inner-was s some in (
+          one.0,
+          record { cut = one.1.cut; stays = λ t leads. stays-now s t some (one.1.stays t leads) },
+        );
     joined = λ s t some is.
         let comes : Comes q replies class s t =
         joined s t (live s some) (sym (refines s some) ∙ is ∙ refines t (λ none. some (is ∙ none))) in

@@ -9,7 +9,7 @@ use Rattle.game_model.specs.Game.{choices_of, choice_of}
 use Rattle.game_model.specs.Query.{Query, states, side_at}
 use Rattle.game_model.specs.Rounded.{up_value}
 use Rattle.trap_sets.specs.Ends.{numbered}
-use Rattle.strong_components.specs.Parts.{Stays, Leaves}
+use Rattle.trap_sets.specs.inside.Parts.{Stays, Leaves}
 use Rattle.trap_sets.specs.Exits.{IsExit, GivesExit, IsBestExit, IsBestBefore}
 
 -- a choice that leaves the number of its state is an exit of the set of that number

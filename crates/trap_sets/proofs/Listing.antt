@@ -8,9 +8,9 @@ use Rattle.game_model.specs.declared.game.Side.{Side}
 use Rattle.game_model.specs.declared.game.Side.TheVariants.{Max, Min}
 use Rattle.game_model.specs.Game.{choices_of, choice_of, destinations}
 use Rattle.game_model.specs.Query.{Query, side_at}
-use Rattle.strong_components.specs.Moves.{Walk}
+use Rattle.trap_sets.specs.Moves.{Walk}
 use Rattle.trap_sets.specs.Ends.{IsMove}
-use Rattle.strong_components.specs.Parts.{IsInner, IsStep}
+use Rattle.trap_sets.specs.inside.Parts.{IsInner, IsStep}
 
 -- whether all these states have the number
 same-all : List ℕ → ℕ → List ℕ → Bool

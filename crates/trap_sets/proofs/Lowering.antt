@@ -23,11 +23,11 @@ use Rattle.inductive_check.specs.Replies.{IsReply, AreReplies}
 use Rattle.inductive_check.proofs.UpSteps.{up_value-held, held-up_value, up_step-le, up_step-free}
 use Rattle.inductive_check.proofs.Entries.{held-most, most-held, all-held, one-held}
 use Rattle.trap_sets.specs.Ends.{numbered}
-use Rattle.strong_components.specs.Moves.{Leads}
-use Rattle.strong_components.specs.Parts.{Stays}
+use Rattle.trap_sets.specs.Moves.{Leads}
+use Rattle.trap_sets.specs.inside.Parts.{Stays}
 use Rattle.trap_sets.specs.Exits.{IsBestExit}
 use Rattle.trap_sets.specs.Lowered.{IsLoweredEntry, IsLowered}
-use Rattle.strong_components.proofs.Leading.{leads-inside, stays-or-leaves}
+use Rattle.trap_sets.proofs.Leading.{leads-inside, stays-or-leaves}
 use Rattle.trap_sets.proofs.Exits.{exit-leaves, best-within}
 use Rattle.trap_sets.proofs.Closing.{IsClosed}
 

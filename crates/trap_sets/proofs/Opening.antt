@@ -5,7 +5,7 @@ use Rattle.std.proofs.lemmas.Bool.{cases_eq}
 use Rattle.std.proofs.lemmas.List.{length_push, get_or_push, get_or_append_left}
 use Rattle.game_model.specs.Query.{Query}
 use Rattle.fixed_bellman.specs.Given.{IsFree}
-use Rattle.strong_components.proofs.Marking.{within}
+use Rattle.trap_sets.proofs.Zeros.{within}
 
 -- of the first states, those that are neither goal nor dead have part 1, the others none
 pub record IsOpening (q : Query) (part : List ℕ) (count : ℕ) : Type 0 where

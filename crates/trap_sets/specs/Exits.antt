@@ -5,7 +5,7 @@ use Rattle.game_model.specs.Game.{choices_of, choice_of}
 use Rattle.game_model.specs.Query.{Query, states, side_at}
 use Rattle.game_model.specs.Rounded.{up_value}
 use Rattle.trap_sets.specs.Ends.{numbered}
-use Rattle.strong_components.specs.Moves.{Leads}
+use Rattle.trap_sets.specs.Moves.{Leads}
 
 -- a choice of a state of the maximiser in the set that has a successor outside it
 pub record IsExit (q : Query) (set : ℕ → Bool) (s c : ℕ) : Type 0 where

@@ -1,3 +1,4 @@
+pub mod Moves
 pub mod Ends
 pub mod Exits
 pub mod Lowered

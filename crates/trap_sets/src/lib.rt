@@ -15,19 +15,30 @@
 //! Not promised: a table is lowered once, by exits over the table handed in, so it may be lowered further by a
 //! second call or by steps; how near it comes to the values no clause says. Other replies have other traps.
 //!
-//! The traps are found by rounds. A round takes their part from the states that have no choice whose successors
-//! are all in the part of the state (an inner choice), and from those that have none left then, and makes the sets of
-//! mutual reachability the new parts, from scratch (Baier and Katoen, Principles of Model Checking, 2008, algorithm
-//! 47). The rounds end where these sets cut no inner choice: none leads both to another state of the set of its state
-//! and out of that set. Then the states of each set still reach each other by choices that stay in it, and what a
-//! last removal leaves are whole sets. `strong_components` finds these sets. A round takes time linear in the states,
+//! The traps are found by rounds. A choice is inner where all its successors are in the part of its state; one part of
+//! all states that are neither goal nor dead is the first. A round takes their part from states that have no inner
+//! choice, and from those that have none left then, divides each part into the strongly connected components of its
+//! inner choices (`play_components`), and looks for a part of which a state does not come to a root of the part, or the
+//! root not to it, by the choices that are inner then; where there is one it breaks it up (Fleischer, Hendrickson and
+//! Pinar, On identifying strongly connected components in parallel, 2000), and another round follows. So in the end the
+//! states of each part reach each other, and a state without an inner choice is alone (Baier and Katoen, Principles of
+//! Model Checking, 2008, algorithm 47).
+//!
+//! The first two steps are made by searches of which no proof says that they find all: what they do is tested, state by
+//! state, and no end component is cut. The third one is exact, and decides. A round takes time linear in the states,
 //! choices and edges. There are as many rounds as sets break up one within another, and most often one; a chain or a
-//! walk of any length takes one, since removal goes on backward at once. The time is no part of the contract.
+//! walk of any length takes one more, since removal goes on backward at once. The time is no part of the contract.
 #![tactic(auto)]
 
 mod arena;
+mod breaking;
+mod choices;
+mod cut;
+mod divide;
+mod inner;
 mod lower;
 mod numbers;
+mod reach;
 mod rounds;
 mod trim;
 

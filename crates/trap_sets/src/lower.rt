@@ -12,6 +12,7 @@ ghost use Rattle.trap_sets.specs.Exits.{IsBestBefore, AreBestExits};
 ghost use Rattle.trap_sets.specs.Lowered.{IsLoweredEntry, IsLowered, IsLoweredTable, IsCapped};
 
 use crate::arena::Table;
+use crate::choices::stays;
 use crate::numbers::{TrapSets, traps_over};
 use fixed_bellman::up_choice;
 use game_laws::tables::inductive_is_high;
@@ -20,7 +21,6 @@ use game_outside::OutOfMemory;
 use inductive_check::laws::replies_hold;
 use predecessors::Predecessors;
 use std::alloc::Global;
-use strong_components::stays;
 
 /// The table, lowered at the states of each trap to the trap's best exit over the table handed in. It passes
 /// the check that the table passed, with the same replies, so it is above every k-step value. The only error

@@ -6,15 +6,15 @@ ghost use Rattle.game_model.specs.Query.{states};
 ghost use Rattle.predecessors.specs.Lists.{ArePredecessors};
 ghost use Rattle.trap_sets.specs.Ends.{AreTraps};
 ghost use Rattle.trap_sets.specs.inside.Numbering.{IsNumbering};
-ghost use Rattle.strong_components.specs.Parts.{IsRooted};
-ghost use Rattle.trap_sets.specs.inside.OfRounds.{AreSettledOf};
+ghost use Rattle.trap_sets.specs.inside.Parts.{IsRooted};
+ghost use Rattle.trap_sets.specs.inside.OfCut.{AreSettledOf};
 
+use crate::cut::Cut;
 use crate::rounds::settled_parts;
 use game_model::Question;
 use game_outside::OutOfMemory;
 use predecessors::Predecessors;
 use std::alloc::Global;
-use strong_components::Cut;
 
 /// The traps of a question: sets of states, none of them goal or dead, in which play can stay for ever and come
 /// from each state to each other, and that lie in no larger such set. They are the greatest end components (de

@@ -1,53 +1,78 @@
-//! Rounds of removal.
+//! Rounds that divide the states into end components.
 
-ghost use Rattle.std.specs.Prelude.{◌≡◌, ◌<◌, ◌↔◌, true, false, IsTrue, IfOk, OnOk};
+ghost use Rattle.std.specs.Prelude.{◌≡◌, ◌<◌, ◌↔◌, length, IsTrue, IfOk, OnOk};
 ghost use Rattle.game_model.specs.Query.{states};
 ghost use Rattle.fixed_bellman.specs.Given.{IsFree};
-ghost use Rattle.strong_components.specs.Parts.{IsRooted};
-ghost use Rattle.trap_sets.specs.inside.Pairs.{pairs};
-ghost use Rattle.trap_sets.specs.inside.OfRounds.{KeepsEndsOf, AreJoinedIn, AreSettledOf};
+ghost use Rattle.trap_sets.specs.inside.OfCut.{states_in, KeepsEndsOf, AreJoinedIn, AreSettledOf, IsKeptIn};
+ghost use Rattle.trap_sets.specs.inside.Parts.{IsRooted};
 
+use crate::breaking::break_up;
+use crate::cut::Cut;
+use crate::divide::divided;
 use crate::trim::trim;
 use game_model::Question;
 use game_outside::OutOfMemory;
 use std::alloc::Global;
-use strong_components::{Cut, split};
 
-/// The greatest parts that are end components.
+/// The greatest parts that are end components. The first loop finds them: each of its rounds takes a state out or
+/// breaks up a part. The second one, which ends whatever the searches do, then has nothing to do.
 pub fn settled_parts(alloc: Global, cut: &Cut<'_>) -> Result<Vec<u32>, OutOfMemory>
     ensures { IfOk result (λ part. AreSettledOf cut.now part.items) }
 {
     let mut part = opening(alloc, cut)?;
-    split_parts(alloc, cut, &mut part)?;
-    Ok(part)
+    for _ in 0..cut.question.game().states() {
+        trim(alloc, cut, &mut part)?;
+        part = divided(alloc, cut, &part)?;
+        if !break_up(alloc, cut, &mut part)? {
+            return without_exits(alloc, cut, &part);
+        }
+    }
+    part = divided(alloc, cut, &part)?;
+    break_all(alloc, cut, &mut part)?;
+    without_exits(alloc, cut, &part)
 }
 
-/// Plays rounds until one cuts no inner choice, and then removes the states that have none.
-fn split_parts(alloc: Global, cut: &Cut<'_>, part: &mut [u32]) -> Result<(), OutOfMemory>
+/// Breaks up parts until the states of each reach each other.
+fn break_all(alloc: Global, cut: &Cut<'_>, part: &mut [u32]) -> Result<(), OutOfMemory>
     requires keeps { KeepsEndsOf cut.now part.old }
-    ensures { OnOk result (AreSettledOf cut.now part.new) }
+    requires rooted { IsRooted part.old }
+    ensures keeps { OnOk result (KeepsEndsOf cut.now part.new) }
+    ensures rooted { OnOk result (IsRooted part.new) }
+    ensures joined { OnOk result (AreJoinedIn cut.now part.new) }
 {
-    let mut changes = true;
-    while changes {
-        changes = next_round(alloc, cut, part)?;
+    let mut breaks = true;
+    while breaks {
+        breaks = break_up(alloc, cut, part)?;
     }
-    trim(alloc, cut, part)?;
     Ok(())
 }
 
-/// Removes the states that have no inner choice, and makes the sets of mutual reachability the new parts.
-/// Tells whether that cut an inner choice: if not, the states of each new part still reach each other.
-fn next_round(alloc: Global, cut: &Cut<'_>, part: &mut [u32]) -> Result<bool, OutOfMemory>
-    requires keeps { KeepsEndsOf cut.now part.old }
-    ensures keeps { OnOk result (KeepsEndsOf cut.now part.new) }
-    ensures rooted { OnOk result (IsRooted part.new) }
-    ensures joined { IfOk result (λ changes. changes ≡ false → AreJoinedIn cut.now part.new) }
-    ensures fewer { IfOk result (λ changes. changes ≡ true → pairs part.new < pairs part.old) }
+/// The parts without the states that have no inner choice, each of which is alone in its part.
+fn without_exits(alloc: Global, cut: &Cut<'_>, part: &[u32]) -> Result<Vec<u32>, OutOfMemory>
+    requires keeps { KeepsEndsOf cut.now part.now }
+    requires rooted { IsRooted part.now }
+    requires joined { AreJoinedIn cut.now part.now }
+    ensures { IfOk result (λ kept. AreSettledOf cut.now kept.items) }
 {
-    trim(alloc, cut, part)?;
-    let round = split(alloc, cut, part)?;
-    part.copy_from_slice(&round.class);
-    Ok(round.cuts)
+    let states = cut.question.game().states();
+    let mut kept = Vec::with_capacity(alloc, states as usize)?;
+    for state in 0..states {
+        kept.push(kept_part(cut, part, state))?;
+    }
+    Ok(kept)
+}
+
+/// The part of a state that has an inner choice, and none for any other.
+fn kept_part(cut: &Cut<'_>, part: &[u32], state: u32) -> u32
+    requires state { state < states_in cut.now }
+    requires many { length part.now ≡ states_in cut.now }
+    ensures { IsKeptIn cut.now part.now state result }
+{
+    if cut.next_inner(part, state, 0) < cut.question.game().choices_of(state) {
+        part[state as usize]
+    } else {
+        0
+    }
 }
 
 /// One part of all states that are neither goal nor dead.

@@ -1,9 +1,9 @@
 -- Parts of the states on the way to the traps: each end component lies in one.
-use Rattle.std.specs.Prelude.{◌≡◌, ◌≢◌, ℕ, ◌<◌, Bool, true, List, length, slice_index, Option}
+use Rattle.std.specs.Prelude.{◌≡◌, ◌≢◌, ℕ, ◌<◌, ◌⊎◌, Bool, true, List, length, slice_index, Option}
 use Rattle.game_model.specs.Query.{Query, states}
 use Rattle.fixed_bellman.specs.Given.{IsFree}
 use Rattle.trap_sets.specs.Ends.{IsEndComponent}
-use Rattle.strong_components.specs.Parts.{IsInner, Comes, IsRooted}
+use Rattle.trap_sets.specs.inside.Parts.{IsInner, Comes, IsRooted}
 
 -- the states with a part are neither goal nor dead, and each end component lies in one part
 pub record KeepsEnds (q : Query) (replies : List (Option ℕ)) (part : List ℕ) : Type 0 where
@@ -29,3 +29,8 @@ pub record AreSettled (q : Query) (replies : List (Option ℕ)) (part : List ℕ
   pub rooted : IsRooted part
   pub inner : HaveInner q replies part
   pub joined : AreJoined q replies part
+
+-- a state with an inner choice keeps its number, and any other has none
+abbrev pub IsKept : Query → List (Option ℕ) → List ℕ → ℕ → ℕ → Type 0
+IsKept q replies part s own = ((own ≡ 0) × ((c : ℕ) → ¬ IsInner q replies part s c))
+    ⊎ ((own ≡ slice_index part s) × ((c : ℕ) × IsInner q replies part s c))

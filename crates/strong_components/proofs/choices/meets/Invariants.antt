@@ -1,7 +1,0 @@
-use Rattle.std.proofs.Common.{◌≢◌, ℕ, ◌<◌}
-use Rattle.std.specs.Prelude.{slice_index}
-use Rattle.strong_components.proofs.choices.meets.Given as goal
-
-abbrev pub invariant-loop-to : goal.invariant-loop-to
-invariant-loop-to l = (k : ℕ) → k < l.to-index → slice_index l.to-items k ≢ l.state
-    → slice_index l.of (slice_index l.to-items k) ≢ slice_index l.of l.state

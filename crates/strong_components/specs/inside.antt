@@ -1,3 +1,0 @@
--- What the crate's own loops and private functions speak of: no clause of a public function unfolds to it.
-pub mod OfInner
-pub mod Searching

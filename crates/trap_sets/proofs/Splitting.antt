@@ -1,0 +1,214 @@
+-- Parts that are broken up.
+use Rattle.std.proofs.Common.{◌≡◌, ◌≢◌, ◌⊎◌, ℕ, ◌+◌, ◌-◌, ◌<◌, ◌≤◌, Bool, true, false, List, length, set, arith, refl, sym}
+use Rattle.std.proofs.Common.{◌∙◌, ap, subst, inl, inr, Option}
+use Rattle.std.specs.Prelude.{slice_index, slice_index_or}
+use Rattle.std.proofs.lemmas.Bool.{cases_eq, cases_Bool}
+use Rattle.std.proofs.lemmas.List.{get_or-set_same, get_or-set_other, length-set}
+use Rattle.game_model.specs.Query.{Query}
+use Rattle.trap_sets.specs.Ends.{IsMove, IsEndComponent}
+use Rattle.trap_sets.specs.declared.inner.Inner.{Inner}
+use Rattle.trap_sets.specs.declared.reach.Way.{Way}
+use Rattle.trap_sets.specs.declared.reach.Way.TheVariants.{On, Back}
+use Rattle.trap_sets.specs.Moves.{Reach}
+use Rattle.trap_sets.specs.inside.Parts.{IsRooted, root_of}
+use Rattle.trap_sets.specs.inside.Settled.{KeepsEnds, AreJoined}
+use Rattle.trap_sets.specs.inside.Rootless.{rootless, rootless_below}
+use Rattle.trap_sets.specs.inside.Breaking.{IsBreak, IsSplit}
+use Rattle.trap_sets.specs.inside.OfInner.{IsStepOf}
+use Rattle.trap_sets.specs.inside.Reaching.{Passes, AreReached}
+use Rattle.trap_sets.proofs.Keeping.{walk-inner}
+use Rattle.trap_sets.proofs.Rootless.{rootless-fewer}
+use Rattle.trap_sets.proofs.Reaching.{walk-turned, closed-on, closed-back}
+use Rattle.trap_sets.proofs.Walking.{reach-join}
+use Rattle.trap_sets.proofs.Zeros.{within}
+
+module _ (inner : Inner)
+    (h : KeepsEnds inner.cut.question.now inner.cut.replies.now inner.part.now) (rooted : IsRooted inner.part.now) where
+  -- no end component crosses the marks of a search
+  uncrossed : (way : Way) (marks : List Bool) → AreReached inner way marks → (member : ℕ → Bool)
+      (listed : ℕ → ℕ → Bool) → IsEndComponent inner.cut.question.now inner.cut.replies.now member listed → (t u : ℕ)
+      → member t ≡ true → member u ≡ true → slice_index_or marks t false ≡ true → slice_index_or marks u false ≡ true
+  uncrossed On marks k member listed component t u in' in'' is =
+      let forth : Reach (IsMove inner.cut.question.now listed) t u = component.joined t u in' in'' in
+      closed-on inner marks k forth.0 t u (walk-inner inner.cut.question.now inner.cut.replies.now inner.part.now h
+      member listed component forth.0 t u in' forth.1) is
+  uncrossed Back marks k member listed component t u in' in'' is =
+      let around : Reach (IsMove inner.cut.question.now listed) u t = component.joined u t in'' in' in
+      closed-back inner marks k around.0 u t (walk-inner inner.cut.question.now inner.cut.replies.now inner.part.now h
+      member listed component around.0 u t in'' around.1) is
+
+  -- where a search does not come to a state, its marks break up the part of the state
+  pub IsBreak-missed : (way : Way) (marks : List Bool) (s : ℕ) → AreReached inner way marks
+      → slice_index inner.part.now s ≢ 0 → slice_index_or marks s false ≡ false
+      → IsBreak inner.cut.question.now inner.cut.replies.now inner.part.now marks s
+  IsBreak-missed way marks s k some out =
+      let root : slice_index inner.part.now (root_of inner.part.now s) ≡ slice_index inner.part.now s = rooted s some in
+      let there : root_of inner.part.now s < length inner.part.now =
+      within inner.part.now (root_of inner.part.now s) (λ none. some (sym root ∙ none)) in
+      record {
+        many = k.reached.many;
+        inside = omega (arith, within inner.part.now s some, h.many);
+        some = some;
+        root = k.reached.roots (root_of inner.part.now s) (omega (arith, there, h.many)) (omega (arith, root, some));
+        apart = out;
+        whole = uncrossed way marks k;
+      }
+
+  -- where searches both ways come to all states of the parts, these reach each other
+  pub AreJoined-met : (back on : List Bool) → AreReached inner Back back → AreReached inner On on
+      → ((s : ℕ) → slice_index inner.part.now s ≢ 0 → slice_index_or back s false ≡ true)
+      → ((s : ℕ) → slice_index inner.part.now s ≢ 0 → slice_index_or on s false ≡ true)
+      → AreJoined inner.cut.question.now inner.cut.replies.now inner.part.now
+  AreJoined-met back on k j all-back all-on = λ s t some same.
+      let home : Reach (Passes inner Back) (root_of inner.part.now s) s = k.reached.met s (all-back s some) in
+      let away : Reach (IsStepOf inner) (root_of inner.part.now t) t =
+      j.reached.met t (all-on t (λ none. some (same ∙ none))) in
+      reach-join (IsStepOf inner) s (root_of inner.part.now s) t
+      (walk-turned inner home.0 (root_of inner.part.now s) s home.1)
+      (subst (λ x. Reach (IsStepOf inner) (x - 1) t) (sym same) away)
+
+-- nothing has been split
+pub IsSplit-none : (old : List ℕ) (marks : List Bool) (own name : ℕ) → IsSplit old marks own name 0 old
+IsSplit-none old marks own name = record {
+  many = refl;
+  moved = λ s l. absurd (omega (arith, l));
+  marked = λ s is. refl;
+  others = λ s is. refl;
+  later = λ s l. refl;
+}
+
+module _ (old : List ℕ) (marks : List Bool) (own name n : ℕ) (new : List ℕ) (h : IsSplit old marks own name n new) where
+  -- a state is passed over
+  pub IsSplit-stays : (slice_index old n ≡ own → slice_index_or marks n false ≡ false → ⊥)
+      → IsSplit old marks own name (n + 1) new
+  IsSplit-stays other = record {
+    many = h.many;
+    moved = λ s l is out. elim (cases_eq s n) [
+      | inl same ↦ absurd (other (sym (ap (slice_index old) same) ∙ is)
+          (sym (ap (λ u. slice_index_or marks u false) same) ∙ out))
+      | inr apart ↦ h.moved s (omega (arith, l, apart)) is out
+    ];
+    marked = h.marked;
+    others = h.others;
+    later = λ s l. h.later s (omega (arith, l));
+  }
+
+  -- a state is moved
+  pub IsSplit-moves : n < length old → slice_index old n ≡ own → slice_index_or marks n false ≡ false
+      → IsSplit old marks own name (n + 1) (set new n name)
+  IsSplit-moves inside is out =
+      let other : (s : ℕ) → s ≢ n → slice_index (set new n name) s ≡ slice_index new s =
+      λ s apart. get_or-set_other new n s name 0 apart in
+      record {
+        many = length-set new n name ∙ h.many;
+        moved = λ s l is' out'. elim (cases_eq s n) [
+          | inl same ↦ ap (slice_index (set new n name)) same
+              ∙ get_or-set_same new n name 0 (omega (arith, inside, h.many))
+          | inr apart ↦ other s apart ∙ h.moved s (omega (arith, l, apart)) is' out'
+        ];
+        marked = λ s mark. other s (λ same.
+            let e : slice_index_or marks n false ≡ true = sym (ap (λ u. slice_index_or marks u false) same) ∙ mark in
+            cc) ∙ h.marked s mark;
+        others = λ s apart. other s (λ same. apart (ap (slice_index old) same ∙ is)) ∙ h.others s apart;
+        later = λ s l. other s (λ same. absurd (omega (arith, l, same))) ∙ h.later s (omega (arith, l));
+      }
+
+-- the states of a part that are not marked have a part of their own
+module _ (q : Query) (replies : List (Option ℕ)) (old : List ℕ) (marks : List Bool) (state n : ℕ) (new : List ℕ)
+    (h : KeepsEnds q replies old) (rooted : IsRooted old) (b : IsBreak q replies old marks state)
+    (all : length old ≤ n) (k : IsSplit old marks (slice_index old state) (state + 1) n new) where
+  at-state : (s : ℕ) → (slice_index new s ≡ slice_index old s)
+      ⊎ ((slice_index old s ≡ slice_index old state) × (slice_index_or marks s false ≡ false)
+      × (slice_index new s ≡ state + 1))
+  at-state s = elim (cases_eq (slice_index old s) (slice_index old state)) [
+    | inr other ↦ inl (k.others s other)
+    | inl same ↦ elim (cases_Bool (slice_index_or marks s false)) [
+      | inl mark ↦ inl (k.marked s mark)
+      | inr out ↦
+          let ls : s < length old = within old s (λ none. b.some (sym same ∙ none)) in
+          inr (same, out, k.moved s (omega (arith, ls, all)) same out)
+    ]
+  ]
+
+  -- no part has the name of the new one
+  unnamed : (s : ℕ) → slice_index old s ≡ state + 1 → ⊥
+  unnamed s is =
+      let some : slice_index old s ≢ 0 = λ none. absurd (omega (arith, is, none)) in
+      let at : root_of old s ≡ state = omega (arith, is) in
+      let root : slice_index old state ≡ state + 1 = sym (ap (slice_index old) at) ∙ rooted s some ∙ is in
+      let here : root_of old state ≡ state = omega (arith, root) in
+      let mark : slice_index_or marks state false ≡ true =
+      sym (ap (λ u. slice_index_or marks u false) here) ∙ b.root in
+      let out : slice_index_or marks state false ≡ false = b.apart in
+      cc
+
+  live : (s : ℕ) → slice_index new s ≢ 0 → slice_index old s ≢ 0
+  live s some = elim (at-state s) [
+    | inl same ↦ λ none. some (same ∙ none)
+    | inr moved ↦ λ none. b.some (sym moved.0 ∙ none)
+  ]
+
+  pub KeepsEnds-split : KeepsEnds q replies new
+  KeepsEnds-split = record {
+    many = k.many ∙ h.many;
+    free = λ s ls some. h.free s ls (live s some);
+    kept = λ member listed component s in' none. elim (at-state s) [
+      | inl same ↦ h.kept member listed component s in' (sym same ∙ none)
+      | inr moved ↦ absurd (omega (arith, moved.2, none))
+    ];
+    joined = λ member listed component s t in' in''.
+        let same : slice_index old s ≡ slice_index old t = h.joined member listed component s t in' in'' in
+        elim (at-state s) [
+          | inl stays ↦ elim (at-state t) [
+            | inl stays' ↦ stays ∙ same ∙ sym stays'
+            | inr moved ↦ elim (cases_Bool (slice_index_or marks s false)) [
+              | inl mark ↦
+                  let e : slice_index_or marks t false ≡ true =
+                  b.whole member listed component s t in' in'' mark in
+                  let f : slice_index_or marks t false ≡ false = moved.1 in
+                  absurd (cc)
+              | inr out ↦ k.moved s (omega (arith, component.inside s in', h.many, all)) (same ∙ moved.0) out
+                  ∙ sym moved.2
+            ]
+          ]
+          | inr moved ↦ elim (cases_Bool (slice_index_or marks t false)) [
+            | inl mark ↦
+                let e : slice_index_or marks s false ≡ true = b.whole member listed component t s in'' in' mark in
+                let f : slice_index_or marks s false ≡ false = moved.1 in
+                absurd (cc)
+            | inr out ↦ moved.2
+                ∙ sym (k.moved t (omega (arith, component.inside t in'', h.many, all)) (sym same ∙ moved.0) out)
+          ]
+        ];
+  }
+
+  -- the root of a part is not moved
+  root-stays : (s : ℕ) → slice_index old s ≢ 0 → slice_index new (root_of old s) ≡ slice_index old s
+  root-stays s some = elim (at-state (root_of old s)) [
+    | inl stays ↦ stays ∙ rooted s some
+    | inr moved ↦
+        let same : slice_index old s ≡ slice_index old state = sym (rooted s some) ∙ moved.0 in
+        let mark : slice_index_or marks (root_of old s) false ≡ true =
+        subst (λ x. slice_index_or marks (x - 1) false ≡ true) (sym same) b.root in
+        let out : slice_index_or marks (root_of old s) false ≡ false = moved.1 in
+        absurd (cc)
+  ]
+
+  pub IsRooted-split : IsRooted new
+  IsRooted-split s some = elim (at-state s) [
+    | inl stays ↦
+        subst (λ x. slice_index new (x - 1) ≡ x) (sym stays) (root-stays s (λ none. some (stays ∙ none)))
+    | inr moved ↦
+        let at : state + 1 - 1 ≡ state = omega arith in
+        let here : slice_index new state ≡ state + 1 =
+        k.moved state (omega (arith, b.inside, h.many, all)) refl b.apart in
+        subst (λ x. slice_index new (x - 1) ≡ x) (sym moved.2) (ap (slice_index new) at ∙ here)
+  ]
+
+  -- a root stays one, and the state becomes one
+  pub rootless-split : rootless new < rootless old
+  rootless-split = subst (λ n. rootless_below new n < rootless old) (sym k.many) (rootless-fewer old new (λ s root.
+      let some : slice_index old s ≢ 0 = λ none. absurd (omega (arith, root, none)) in
+      let at : root_of old s ≡ s = omega (arith, root) in
+      sym (ap (slice_index new) at) ∙ root-stays s some ∙ root) (length old) state (omega (arith, b.inside, h.many))
+      (k.moved state (omega (arith, b.inside, h.many, all)) refl b.apart) (λ is. unnamed state is))

@@ -1,0 +1,25 @@
+-- Parts that are broken up.
+use Rattle.std.specs.Prelude.{◌≡◌, ◌≢◌, ℕ, ◌<◌, ◌≤◌, Bool, true, false, List, length, slice_index, slice_index_or}
+use Rattle.std.specs.Prelude.{Option}
+use Rattle.game_model.specs.Query.{Query, states}
+use Rattle.trap_sets.specs.Ends.{IsEndComponent}
+use Rattle.trap_sets.specs.inside.Parts.{root_of}
+
+-- marks that no end component crosses, and which have the root of the part of a state, but not the state
+pub record IsBreak (q : Query) (replies : List (Option ℕ)) (part : List ℕ) (marks : List Bool) (s : ℕ) : Type 0 where
+  pub many : length marks ≡ states q
+  pub inside : s < states q
+  pub some : slice_index part s ≢ 0
+  pub root : slice_index_or marks (root_of part s) false ≡ true
+  pub apart : slice_index_or marks s false ≡ false
+  pub whole : (set : ℕ → Bool) (listed : ℕ → ℕ → Bool) → IsEndComponent q replies set listed → (t u : ℕ)
+      → set t ≡ true → set u ≡ true → slice_index_or marks t false ≡ true → slice_index_or marks u false ≡ true
+
+-- of the first states of one part those that are not marked have another number
+pub record IsSplit (old : List ℕ) (marks : List Bool) (own name n : ℕ) (new : List ℕ) : Type 0 where
+  pub many : length new ≡ length old
+  pub moved : (s : ℕ) → s < n → slice_index old s ≡ own → slice_index_or marks s false ≡ false
+      → slice_index new s ≡ name
+  pub marked : (s : ℕ) → slice_index_or marks s false ≡ true → slice_index new s ≡ slice_index old s
+  pub others : (s : ℕ) → slice_index old s ≢ own → slice_index new s ≡ slice_index old s
+  pub later : (s : ℕ) → n ≤ s → slice_index new s ≡ slice_index old s

@@ -1,0 +1,101 @@
+//! Parts whose states do not all reach each other, broken up.
+
+ghost use Rattle.std.specs.Prelude.{◌≡◌, ◌≢◌, ℕ, ◌+◌, ◌<◌, ◌≤◌, true, false, length, slice_index, slice_index_or, IfOk, OnOk, IfSome, MatchOption};
+ghost use Rattle.game_model.specs.Limits.{most_states};
+ghost use Rattle.trap_sets.specs.inside.OfCut.{states_in, KeepsEndsOf, AreJoinedIn, IsBreakOf};
+ghost use Rattle.trap_sets.specs.inside.Parts.{IsRooted};
+ghost use Rattle.trap_sets.specs.inside.Rootless.{rootless};
+
+use crate::cut::Cut;
+use crate::inner::Inner;
+use crate::reach::{Way, reached};
+use game_outside::OutOfMemory;
+use std::alloc::Global;
+
+/// Marks that break up the part of a state.
+#[derive(Drop)]
+struct Break {
+    marks: Vec<bool>,
+    state: u32,
+}
+
+/// Breaks up a part whose states do not all reach each other. Whether there was one.
+pub fn break_up(alloc: Global, cut: &Cut<'_>, part: &mut [u32]) -> Result<bool, OutOfMemory>
+    requires keeps { KeepsEndsOf cut.now part.old }
+    requires rooted { IsRooted part.old }
+    ensures keeps { OnOk result (KeepsEndsOf cut.now part.new) }
+    ensures rooted { OnOk result (IsRooted part.new) }
+    ensures joined { IfOk result (λ breaks. breaks ≡ false → AreJoinedIn cut.now part.new) }
+    ensures fewer { IfOk result (λ breaks. breaks ≡ true → rootless part.new < rootless part.old) }
+{
+    match find_break(alloc, cut, part)? {
+        Some(found) => {
+            split_off(cut, part, &found.marks, found.state);
+            Ok(true)
+        }
+        None => Ok(false),
+    }
+}
+
+/// Looks for a part whose states do not all come to its root, or not all from it.
+fn find_break(alloc: Global, cut: &Cut<'_>, part: &[u32]) -> Result<Option<Break>, OutOfMemory>
+    requires keeps { KeepsEndsOf cut.now part.now }
+    requires rooted { IsRooted part.now }
+    ensures { IfOk result (λ found. MatchOption found (AreJoinedIn cut.now part.now)
+        (λ b. IsBreakOf cut.now part.now b.marks.items b.state)) }
+{
+    let inner = Inner::of_parts(alloc, cut, part)?;
+    let found = search_break(alloc, &inner)?;
+    Ok(found)
+}
+
+/// Searches back from the roots of all parts, and then on.
+fn search_break(alloc: Global, inner: &Inner<'_>) -> Result<Option<Break>, OutOfMemory>
+    requires keeps { KeepsEndsOf inner.now.cut inner.now.part.now }
+    requires rooted { IsRooted inner.now.part.now }
+    ensures { IfOk result (λ found. MatchOption found (AreJoinedIn inner.now.cut inner.now.part.now)
+        (λ b. IsBreakOf inner.now.cut inner.now.part.now b.marks.items b.state)) }
+{
+    let back = reached(alloc, inner, Way::Back)?;
+    if let Some(state) = first_unmarked(inner.part, &back) {
+        return Ok(Some(Break { marks: back, state }));
+    }
+    let on = reached(alloc, inner, Way::On)?;
+    if let Some(state) = first_unmarked(inner.part, &on) {
+        return Ok(Some(Break { marks: on, state }));
+    }
+    Ok(None)
+}
+
+/// The first state that has a part and no mark.
+fn first_unmarked(part: &[u32], marks: &[bool]) -> Option<u32>
+    requires few { length part.now ≤ most_states }
+    requires many { length marks.now ≡ length part.now }
+    ensures { MatchOption result ((s : ℕ) → slice_index part.now s ≢ 0 → slice_index_or marks.now s false ≡ true)
+        (λ s. (slice_index part.now s ≢ 0) × (slice_index_or marks.now s false ≡ false)) }
+{
+    for place in 0..part.len() {
+        if part[place] != 0 && !marks[place] {
+            return Some(place as u32);
+        }
+    }
+    None
+}
+
+/// The states of a state's part that are not marked become a part of their own, named after it.
+fn split_off(cut: &Cut<'_>, part: &mut [u32], marks: &[bool], state: u32)
+    requires keeps { KeepsEndsOf cut.now part.old }
+    requires rooted { IsRooted part.old }
+    requires breaks { IsBreakOf cut.now part.old marks.now state }
+    ensures keeps { KeepsEndsOf cut.now part.new }
+    ensures rooted { IsRooted part.new }
+    ensures fewer { rootless part.new < rootless part.old }
+{
+    let _ = cut;
+    let own = part[state as usize];
+    for place in 0..part.len() {
+        if part[place] == own && !marks[place] {
+            part[place] = state + 1;
+        }
+    }
+}

@@ -1,0 +1,73 @@
+//! A question whose minimiser plays its replies.
+
+ghost use Rattle.std.specs.Prelude.{◌≡◌, length};
+ghost use Rattle.game_model.specs.Query.{IsQuery, states};
+ghost use Rattle.predecessors.specs.Lists.{ArePredecessors};
+
+use crate::choices::stays;
+use game_model::{Question, Side};
+use predecessors::Predecessors;
+
+/// The cut question: a question whose minimiser has at each state its reply alone, and for each state the moves
+/// that lead to it.
+#[derive(Clone, Copy)]
+pub struct Cut<'a> {
+    pub question: &'a Question<'a>,
+    pub replies: &'a [Option<u32>],
+    pub predecessors: &'a Predecessors,
+    ghost posed: { IsQuery question.now },
+    ghost replied: { length replies.now ≡ states question.now },
+    ghost lists: { ArePredecessors question.now.game predecessors.now },
+}
+
+impl Cut<'_> {
+    ghost use Rattle.std.specs.Prelude.{ℕ, ◌<◌, ◌≤◌, ◌↔◌, IsTrue};
+    ghost use Rattle.game_model.specs.Game.{choices_of};
+    ghost use Rattle.trap_sets.specs.Moves.{IsCut};
+    ghost use Rattle.trap_sets.specs.inside.OfCut.{states_in, IsInnerIn};
+
+    /// Whether a choice is one of the cut question: at a state of the minimiser its reply alone is.
+    fn has(&self, state: u32, choice: u32) -> bool
+        requires state { state < states_in self.now }
+        requires choice { choice < length (choices_of self.now.question.now.game state) }
+        ensures { IsTrue result ↔ IsCut self.now.question.now self.now.replies.now state choice }
+    {
+        match self.question.side(state) {
+            Side::Max => true,
+            Side::Min => match self.replies[state as usize] {
+                Some(reply) => reply == choice,
+                None => false,
+            },
+        }
+    }
+
+    /// Whether a choice is inner: one of the cut question that stays in the part of its state.
+    pub(crate) fn is_inner(&self, part: &[u32], state: u32, choice: u32) -> bool
+        requires state { state < states_in self.now }
+        requires choice { choice < length (choices_of self.now.question.now.game state) }
+        requires part { length part.now ≡ states_in self.now }
+        ensures { IsTrue result ↔ IsInnerIn self.now part.now state choice }
+    {
+        self.has(state, choice) && stays(self.question, part, state, choice)
+    }
+
+    /// The first inner choice of a state, from this one on; the number of choices where there is none.
+    pub fn next_inner(&self, part: &[u32], state: u32, from: u32) -> u32
+        requires state { state < states_in self.now }
+        requires from { from ≤ length (choices_of self.now.question.now.game state) }
+        requires part { length part.now ≡ states_in self.now }
+        ensures from { from ≤ result }
+        ensures within { result ≤ length (choices_of self.now.question.now.game state) }
+        ensures before { (c : ℕ) → from ≤ c → c < result → ¬ IsInnerIn self.now part.now state c }
+        ensures found { result < length (choices_of self.now.question.now.game state)
+            → IsInnerIn self.now part.now state result }
+    {
+        let count = self.question.game().choices_of(state);
+        for choice in from..count {
+            if self.is_inner(part, state, choice) {
+                return choice;
+            }
+        }
+        count
+    }
+}

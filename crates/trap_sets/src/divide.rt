@@ -1,0 +1,76 @@
+//! Parts, divided into components.
+
+ghost use Rattle.std.specs.Prelude.{◌≡◌, ℕ, ◌<◌, ◌≤◌, ◌+◌, List, [], ◌∷◌, ◌++◌, length, slice_index, IfOk, OnOk};
+ghost use Rattle.game_model.specs.Limits.{most_states};
+ghost use Rattle.trap_sets.specs.inside.OfCut.{KeepsEndsOf};
+ghost use Rattle.trap_sets.specs.inside.Parts.{IsRooted};
+ghost use Rattle.trap_sets.specs.inside.Naming.{IsNaming};
+
+use crate::cut::Cut;
+use crate::inner::Inner;
+use game_outside::OutOfMemory;
+use std::alloc::Global;
+
+/// The components of the inner choices of these parts, each named after its first state that has a part.
+pub fn divided(alloc: Global, cut: &Cut<'_>, part: &[u32]) -> Result<Vec<u32>, OutOfMemory>
+    requires keeps { KeepsEndsOf cut.now part.now }
+    ensures keeps { IfOk result (λ class. KeepsEndsOf cut.now class.items) }
+    ensures rooted { IfOk result (λ class. IsRooted class.items) }
+{
+    let inner = Inner::of_parts(alloc, cut, part)?;
+    let class = classes(alloc, &inner)?;
+    Ok(class)
+}
+
+/// The components of these inner choices, named.
+fn classes(alloc: Global, inner: &Inner<'_>) -> Result<Vec<u32>, OutOfMemory>
+    requires keeps { KeepsEndsOf inner.now.cut inner.now.part.now }
+    ensures keeps { IfOk result (λ class. KeepsEndsOf inner.now.cut class.items) }
+    ensures rooted { IfOk result (λ class. IsRooted class.items) }
+{
+    let component = inner.components(alloc)?;
+    let mut names = vec![in alloc; 0u32; component.len()]?;
+    let mut class = Vec::new(alloc);
+    name_all(&component, inner.part, &mut names, &mut class)?;
+    Ok(class)
+}
+
+/// Gives each state that has a part the name of its component.
+fn name_all(
+    component: &[u32],
+    part: &[u32],
+    names: &mut [u32],
+    class: &mut Vec<u32>,
+) -> Result<(), OutOfMemory>
+    requires many { length component.now ≡ length part.now }
+    requires few { length part.now ≤ most_states }
+    requires room { (s : ℕ) → s < length part.now → slice_index component.now s < length names.old }
+    requires naming { IsNaming part.now component.now names.old class.old.items 0 }
+    ensures { OnOk result (IsNaming part.now component.now names.new class.new.items (length part.now)) }
+{
+    for place in 0..part.len() {
+        class.push(name_of(component, part, place as u32, names))?;
+    }
+    Ok(())
+}
+
+/// The name of a state's component: one more than the first state of it that has a part. A state without a part has none.
+fn name_of(component: &[u32], part: &[u32], state: u32, names: &mut [u32]) -> u32
+    requires many { length component.now ≡ length part.now }
+    requires state { state < length part.now }
+    requires few { length part.now ≤ most_states }
+    requires room { slice_index component.now state < length names.old }
+    ensures naming { (class : List ℕ) → IsNaming part.now component.now names.old class state
+        → IsNaming part.now component.now names.new (class ++ result ∷ []) (state + 1) }
+    ensures room { length names.new ≡ length names.old }
+{
+    if part[state as usize] == 0 {
+        return 0;
+    }
+    let own = component[state as usize] as usize;
+    if names[own] == 0 {
+        names[own] = state + 1;
+        return state + 1;
+    }
+    names[own]
+}

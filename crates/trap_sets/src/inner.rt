@@ -1,0 +1,64 @@
+//! The inner choices of given parts, found once.
+
+ghost use Rattle.std.specs.Prelude.{◌≡◌, ◌<◌, length};
+ghost use Rattle.game_model.specs.Game.{choices_of};
+ghost use Rattle.game_model.specs.Query.{states};
+ghost use Rattle.predecessors.specs.Flags.{AreFlags};
+ghost use Rattle.trap_sets.specs.inside.Parts.{IsInner};
+ghost use Rattle.trap_sets.specs.inside.OfCut.{states_in};
+
+use crate::cut::Cut;
+use game_outside::OutOfMemory;
+use play_components::component_numbers;
+use predecessors::ChoiceFlags;
+use std::alloc::Global;
+
+/// The parts of a cut question, and for each choice, in the order of the game, whether it is inner.
+#[derive(Drop)]
+pub struct Inner<'a> {
+    pub cut: Cut<'a>,
+    pub part: &'a [u32],
+    flags: ChoiceFlags,
+    ghost parted: { length part.now ≡ states cut.question.now },
+    ghost flagged: { AreFlags cut.question.now.game (IsInner cut.question.now cut.replies.now part.now) flags },
+}
+
+impl<'a> Inner<'a> {
+    ghost use Rattle.std.specs.Prelude.{ℕ, ◌≤◌, ◌↔◌, IsTrue, IfOk, slice_index};
+    ghost use Rattle.trap_sets.specs.inside.OfInner.{states_of, LeadsOf, IsInnerOf};
+
+    /// The inner choices of these parts. Each choice is tested once.
+    pub fn of_parts(alloc: Global, cut: &Cut<'a>, part: &'a [u32]) -> Result<Inner<'a>, OutOfMemory>
+        requires { length part.now ≡ states_in cut.now }
+        ensures cut { IfOk result (λ inner. inner.cut ≡ cut.now) }
+        ensures part { IfOk result (λ inner. inner.part.now ≡ part.now) }
+    {
+        let flags = ChoiceFlags::of_game(alloc, cut.question.game(), |state, choice| {
+            cut.is_inner(part, state, choice)
+        })?;
+        Ok(Inner {
+            cut: *cut,
+            part,
+            flags,
+        })
+    }
+
+    /// For each state the number of its component over the inner choices.
+    pub fn components(&self, alloc: Global) -> Result<Vec<u32>, OutOfMemory>
+        ensures many { IfOk result (λ l. length l.items ≡ states_of self.now) }
+        ensures below { IfOk result (λ l. (s : ℕ) → s < states_of self.now → slice_index l.items s < states_of self.now) }
+        ensures order { IfOk result (λ l. (s d t : ℕ) → s < states_of self.now → IsInnerOf self.now s d
+            → LeadsOf self.now s d t → slice_index l.items t ≤ slice_index l.items s) }
+    {
+        component_numbers(alloc, self.cut.question, &self.flags)
+    }
+
+    /// Whether a choice is inner.
+    pub fn has(&self, state: u32, choice: u32) -> bool
+        requires state { state < states_of self.now }
+        requires choice { choice < length (choices_of self.now.cut.question.now.game state) }
+        ensures { IsTrue result ↔ IsInnerOf self.now state choice }
+    {
+        self.flags.has(self.cut.question.game(), state, choice)
+    }
+}

@@ -1,0 +1,166 @@
+//! Searches from the roots of all parts at once.
+
+ghost use Rattle.std.specs.Prelude.{◌≡◌, ℕ, ◌+◌, ◌<◌, true, false, length, slice_index, slice_index_or, IfOk, OnOk};
+ghost use Rattle.attractors.specs.Growing.{IsOrder};
+ghost use Rattle.game_model.specs.Game.{choices_of};
+ghost use Rattle.trap_sets.specs.inside.OfInner.{states_of, LeadsOf, IsInnerOf, IsStepOf};
+ghost use Rattle.trap_sets.specs.inside.Parts.{IsRooted};
+ghost use Rattle.trap_sets.specs.inside.Reaching.{Passes, IsMore, IsReaching, AreReached};
+
+use crate::inner::Inner;
+use game_outside::OutOfMemory;
+use predecessors::Move;
+use std::alloc::Global;
+
+/// Which way a search goes: on along inner choices, or back against them.
+#[derive(Clone, Copy)]
+pub enum Way {
+    On,
+    Back,
+}
+
+/// The marked states, and these in the order in which they were met.
+#[derive(Drop)]
+struct Search {
+    marks: Vec<bool>,
+    order: Vec<u32>,
+}
+
+/// Marks the states to which a search comes that goes this way from the root of their part.
+pub fn reached(alloc: Global, inner: &Inner<'_>, way: Way) -> Result<Vec<bool>, OutOfMemory>
+    ensures { IfOk result (λ marks. AreReached inner.now way marks.items) }
+{
+    let mut search = Search::of_roots(alloc, inner)?;
+    let mut place: usize = 0;
+    while place < search.order.len() {
+        let state = search.order[place];
+        search.pass(inner, way, state)?;
+        place += 1;
+    }
+    Ok(search.marks)
+}
+
+impl Search {
+    /// The roots alone.
+    fn of_roots(alloc: Global, inner: &Inner<'_>) -> Result<Search, OutOfMemory>
+        ensures { IfOk result (λ r. (way : Way) → IsReaching inner.now way r.marks.items r.order.items 0) }
+    {
+        let states = inner.cut.question.game().states();
+        let mut marks = Vec::with_capacity(alloc, states as usize)?;
+        let mut order = Vec::new(alloc);
+        for state in 0..states {
+            let is_root = inner.part[state as usize] == state + 1;
+            marks.push(is_root)?;
+            if is_root {
+                order.push(state)?;
+            }
+        }
+        Ok(Search { marks, order })
+    }
+
+    /// Marks a state.
+    fn add(&mut self, state: u32) -> Result<(), OutOfMemory>
+        requires ordered { IsOrder self.old.marks.items self.old.order.items }
+        requires state { state < length self.old.marks.items }
+        ensures more { OnOk result (IsMore (λ s. s ≡ state) self.old.marks.items self.old.order.items
+            self.new.marks.items self.new.order.items) }
+        ensures added { OnOk result (slice_index_or self.new.marks.items state false ≡ true) }
+    {
+        if self.marks[state as usize] {
+            return Ok(());
+        }
+        self.marks[state as usize] = true;
+        self.order.push(state)?;
+        Ok(())
+    }
+
+    /// Marks the states to which a search passes from this one.
+    fn pass(&mut self, inner: &Inner<'_>, way: Way, state: u32) -> Result<(), OutOfMemory>
+        requires ordered { IsOrder self.old.marks.items self.old.order.items }
+        requires many { length self.old.marks.items ≡ states_of inner.now }
+        requires state { state < states_of inner.now }
+        ensures more { OnOk result (IsMore (Passes inner.now way state) self.old.marks.items self.old.order.items
+            self.new.marks.items self.new.order.items) }
+        ensures passed { OnOk result ((t : ℕ) → Passes inner.now way state t
+            → slice_index_or self.new.marks.items t false ≡ true) }
+    {
+        match way {
+            Way::On => self.go_on(inner, state),
+            Way::Back => self.go_back(inner, state),
+        }
+    }
+
+    /// Marks the states to which an inner choice of this one leads.
+    fn go_on(&mut self, inner: &Inner<'_>, state: u32) -> Result<(), OutOfMemory>
+        requires ordered { IsOrder self.old.marks.items self.old.order.items }
+        requires many { length self.old.marks.items ≡ states_of inner.now }
+        requires state { state < states_of inner.now }
+        ensures more { OnOk result (IsMore (IsStepOf inner.now state) self.old.marks.items self.old.order.items
+            self.new.marks.items self.new.order.items) }
+        ensures passed { OnOk result ((t : ℕ) → IsStepOf inner.now state t
+            → slice_index_or self.new.marks.items t false ≡ true) }
+    {
+        for choice in 0..inner.cut.question.game().choices_of(state) {
+            self.follow(inner, Move { state, choice })?;
+        }
+        Ok(())
+    }
+
+    /// Marks the states to which a choice leads, where it is inner.
+    fn follow(&mut self, inner: &Inner<'_>, step: Move) -> Result<(), OutOfMemory>
+        requires ordered { IsOrder self.old.marks.items self.old.order.items }
+        requires many { length self.old.marks.items ≡ states_of inner.now }
+        requires state { step.state < states_of inner.now }
+        requires choice { step.choice < length (choices_of inner.now.cut.question.now.game step.state) }
+        ensures more { OnOk result (IsMore (IsStepOf inner.now step.state) self.old.marks.items self.old.order.items
+            self.new.marks.items self.new.order.items) }
+        ensures passed { OnOk result (IsInnerOf inner.now step.state step.choice → (t : ℕ)
+            → LeadsOf inner.now step.state step.choice t → slice_index_or self.new.marks.items t false ≡ true) }
+    {
+        if !inner.has(step.state, step.choice) {
+            return Ok(());
+        }
+        for to in inner
+            .cut
+            .question
+            .game()
+            .successors(step.state, step.choice)
+        {
+            self.add(*to)?;
+        }
+        Ok(())
+    }
+
+    /// Marks the states from which an inner choice leads to this one.
+    fn go_back(&mut self, inner: &Inner<'_>, state: u32) -> Result<(), OutOfMemory>
+        requires ordered { IsOrder self.old.marks.items self.old.order.items }
+        requires many { length self.old.marks.items ≡ states_of inner.now }
+        requires state { state < states_of inner.now }
+        ensures more { OnOk result (IsMore (λ s. IsStepOf inner.now s state) self.old.marks.items self.old.order.items
+            self.new.marks.items self.new.order.items) }
+        ensures passed { OnOk result ((s : ℕ) → IsStepOf inner.now s state
+            → slice_index_or self.new.marks.items s false ≡ true) }
+    {
+        for step in inner.cut.predecessors.of_state(state) {
+            self.meet(inner, *step)?;
+        }
+        Ok(())
+    }
+
+    /// Marks the state of a choice, where it is inner.
+    fn meet(&mut self, inner: &Inner<'_>, step: Move) -> Result<(), OutOfMemory>
+        requires ordered { IsOrder self.old.marks.items self.old.order.items }
+        requires many { length self.old.marks.items ≡ states_of inner.now }
+        requires state { step.state < states_of inner.now }
+        requires choice { step.choice < length (choices_of inner.now.cut.question.now.game step.state) }
+        ensures more { OnOk result (IsMore (λ s. (s ≡ step.state) × IsInnerOf inner.now step.state step.choice)
+            self.old.marks.items self.old.order.items self.new.marks.items self.new.order.items) }
+        ensures met { OnOk result (IsInnerOf inner.now step.state step.choice
+            → slice_index_or self.new.marks.items step.state false ≡ true) }
+    {
+        if !inner.has(step.state, step.choice) {
+            return Ok(());
+        }
+        self.add(step.state)
+    }
+}
