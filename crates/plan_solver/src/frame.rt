@@ -2,6 +2,7 @@
 
 ghost use Rattle.std.specs.Prelude.{◌≡◌, ◌<◌, length};
 ghost use Rattle.game_model.specs.Query.{states};
+ghost use Rattle.predecessors.specs.Lists.{ArePredecessors};
 ghost use Rattle.play_components.specs.Division.{states_of};
 
 use crate::approach::Approach;
@@ -24,7 +25,7 @@ pub struct Frame<'a, 'q> {
     pub sure: &'a Marks,
     /// The states of value 0.
     pub zero: &'a Marks,
-    ghost predecessors_all: { length predecessors.now ≡ states question.now },
+    ghost lists: { ArePredecessors question.now.game predecessors.now },
     ghost components_all: { states_of components.now ≡ states question.now },
     ghost sure_all: { length sure.now ≡ states question.now },
     ghost zero_all: { length zero.now ≡ states question.now },

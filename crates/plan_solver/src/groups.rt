@@ -1,21 +1,19 @@
 //! The end components that are left to the maximiser where the minimiser plays its replies.
 
-ghost use Rattle.std.specs.Prelude.{◌≡◌, ◌<◌, IfOk, length};
+ghost use Rattle.std.specs.Prelude.{◌≡◌, ◌<◌, IfOk, length, vec_len};
 ghost use Rattle.game_model.specs.Game.{choices_of};
 ghost use Rattle.game_model.specs.Query.{states};
 ghost use Rattle.play_components.specs.Division.{states_of};
 
 use crate::approach::NONE;
 use crate::frame::{Frame, is_open};
-use crate::staying::{Staying, stays};
+use crate::lower::note;
 use game_model::{Marks, Question, Side};
 use game_outside::OutOfMemory;
 use play_components::Components;
 use predecessors::ChoiceFlags;
 use std::alloc::Global;
-
-/// The most times that components are divided once more.
-const TURNS: u32 = 1_000;
+use trap_sets::{TrapSets, traps_over};
 
 /// The states of each end component, in a row.
 #[derive(Drop)]
@@ -35,13 +33,40 @@ impl Groups {
         }
     }
 
-    /// The members of each part.
-    fn of_parts(alloc: Global, parts: &Components, states: u32) -> Result<Groups, OutOfMemory>
-        requires { states_of parts.now ≡ states }
-    {
-        let leads = leads_of(alloc, parts, states)?;
-        let nexts = nexts_of(alloc, parts, states)?;
-        Ok(Groups { leads, nexts })
+    /// The states of each trap, in this order, and behind them those that it lacks by their numbers.
+    fn of_traps(alloc: Global, traps: &TrapSets, order: &[u32]) -> Result<Groups, OutOfMemory> {
+        let states = traps.of.len();
+        let mut groups = Groups {
+            leads: vec![in alloc; NONE; states]?,
+            nexts: vec![in alloc; NONE; states]?,
+        };
+        let mut last = vec![in alloc; NONE; traps.count as usize + 1]?;
+        for state in order {
+            groups.place(traps, *state, &mut last);
+        }
+        for place in 0..states {
+            groups.place(traps, u32::try_from(place).unwrap_or(NONE), &mut last);
+        }
+        Ok(groups)
+    }
+
+    /// Gives a state its place behind the last one of its trap.
+    fn place(&mut self, traps: &TrapSets, state: u32, last: &mut [u32]) {
+        if self.leads.get(state as usize).copied() != Some(NONE) {
+            return;
+        }
+        let trap = traps.of.get(state as usize).copied().unwrap_or(0);
+        let mut lead = state;
+        if trap != 0 {
+            if let Some(before) = last.get_mut(trap as usize) {
+                if *before != NONE {
+                    lead = self.lead_of(*before);
+                    note(&mut self.nexts, *before, state);
+                }
+                *before = state;
+            }
+        }
+        note(&mut self.leads, state, lead);
     }
 
     /// Whether every state is known to be alone.
@@ -76,56 +101,52 @@ impl Groups {
     }
 }
 
-/// For each state the first one of its part.
-fn leads_of(alloc: Global, parts: &Components, states: u32) -> Result<Vec<u32>, OutOfMemory>
-    requires { states_of parts.now ≡ states }
-{
-    let mut leads = Vec::with_capacity(alloc, states as usize)?;
-    for state in 0..states {
-        let members = parts.members(parts.component_of(state));
-        leads.push(members.first().copied().unwrap_or(state))?;
-    }
-    Ok(leads)
-}
-
-/// For each state the next one of its part, or `NONE`.
-fn nexts_of(alloc: Global, parts: &Components, states: u32) -> Result<Vec<u32>, OutOfMemory>
-    requires { states_of parts.now ≡ states }
-{
-    let mut nexts = Vec::with_capacity(alloc, states as usize)?;
-    for state in 0..states {
-        let members = parts.members(parts.component_of(state));
-        let place = (parts.place_of(state) as usize).saturating_add(1);
-        nexts.push(members.get(place).copied().unwrap_or(NONE))?;
-    }
-    Ok(nexts)
-}
-
-/// Divides components until no choice that stays in one of them leaves its part: a part of more than one state is an
-/// end component. Mostly no choice can stay for ever, and nothing is searched. The only error is want of memory.
+/// The end components of the open states where the minimiser plays its replies: the traps of the question in which all
+/// others are dead. Mostly no choice can stay for ever, and nothing is searched. The only error is want of memory.
 pub(crate) fn end_components(
     alloc: Global,
     frame: &Frame<'_, '_>,
     replies: &[u32],
-) -> Result<Groups, OutOfMemory> {
+) -> Result<Groups, OutOfMemory>
+    requires { length replies.now ≡ states frame.now.question.now }
+{
     if !has_free_choice(frame) {
         return Ok(Groups::alone(alloc));
     }
-    let staying = Staying::of_frame(alloc, frame, replies)?;
-    if !staying.has_any() {
+    let posed = open_question(alloc, frame)?;
+    let played = played(alloc, replies)?;
+    let traps = traps_over(alloc, &posed, frame.predecessors, &played)?;
+    if traps.count == 0 {
         return Ok(Groups::alone(alloc));
     }
-    let order = &frame.approach.order;
-    let mut parts = divided(alloc, frame.question, &staying, frame.components, order)?;
-    for _ in 0..TURNS {
-        let finer = divided(alloc, frame.question, &staying, &parts, order)?;
-        let is_done = finer.count() == parts.count();
-        parts = finer;
-        if is_done {
-            break;
-        }
+    Groups::of_traps(alloc, &traps, &frame.approach.order)
+}
+
+/// The question without goals in which each state is dead whose value is 1 or 0.
+fn open_question<'q>(alloc: Global, frame: &Frame<'_, 'q>) -> Result<Question<'q>, OutOfMemory>
+    ensures { IfOk result (λ posed. posed.game ≡ frame.now.question.now.game) }
+{
+    frame.question.known();
+    let states = frame.question.game().states();
+    let goals = vec![in alloc; false; states as usize]?;
+    let mut sides = Vec::with_capacity(alloc, states as usize)?;
+    let mut closed = Vec::with_capacity(alloc, states as usize)?;
+    for state in 0..states {
+        sides.push(frame.question.side(state))?;
+        closed.push(!is_open(frame.sure, frame.zero, state))?;
     }
-    Groups::of_parts(alloc, &parts, frame.question.game().states())
+    Ok(Question::build(frame.question.game(), sides, goals, closed))
+}
+
+/// The replies, as those of a plan.
+fn played(alloc: Global, replies: &[u32]) -> Result<Vec<Option<u32>>, OutOfMemory>
+    ensures { IfOk result (λ list. vec_len list ≡ length replies.now) }
+{
+    let mut list = Vec::with_capacity(alloc, replies.len())?;
+    for reply in replies {
+        list.push(Some(*reply))?;
+    }
+    Ok(list)
 }
 
 /// Whether the maximiser has more than one choice at a state whose value is neither 1 nor 0. Without that nobody can
@@ -140,23 +161,6 @@ fn has_free_choice(frame: &Frame<'_, '_>) -> bool {
         }
     }
     false
-}
-
-/// The components over the choices that are left and stay in these parts.
-fn divided(
-    alloc: Global,
-    question: &Question,
-    staying: &Staying,
-    parts: &Components,
-    order: &[u32],
-) -> Result<Components, OutOfMemory>
-    requires { states_of parts.now ≡ states question.now }
-    ensures { IfOk result (λ c. states_of c ≡ states question.now) }
-{
-    let kept = ChoiceFlags::of_game(alloc, question.game(), |state, choice| {
-        staying.has(question, state, choice) && stays(question, parts, state, choice)
-    })?;
-    Components::of_question(alloc, question, &kept, order)
 }
 
 /// The components of the states whose value is neither 1 nor 0; each other state is one of its own.

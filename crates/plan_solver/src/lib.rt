@@ -18,7 +18,6 @@ mod frame;
 mod groups;
 mod lower;
 mod replies;
-mod staying;
 mod upper;
 mod weights;
 

@@ -105,3 +105,10 @@ fn value_of(row: &Row<'_>, entries: &[u64], choice: u32) -> f64
 fn entry_of(entries: &[u64], state: u32) -> f64 {
     nearest_u64_to_f64(entries.get(state as usize).copied().unwrap_or(0))
 }
+
+/// Whether the side of a state may take a choice: the minimiser plays its reply.
+pub(crate) fn is_played(question: &Question, replies: &[u32], state: u32, choice: u32) -> bool
+    requires { state < states question.now }
+{
+    question.side(state) == Side::Max || replies.get(state as usize).copied() == Some(choice)
+}

@@ -8,7 +8,7 @@ use crate::edges::{add_edges, draft_of};
 use crate::frame::Frame;
 use crate::groups::Groups;
 use crate::lower::{clear_nodes, note, numbers, place_nodes};
-use crate::staying::is_played;
+use crate::replies::is_played;
 use float_games::{Bound, Draft, FloatGame};
 use game_model::{Question, Side};
 use game_outside::OutOfMemory;
