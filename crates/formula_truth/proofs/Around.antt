@@ -10,6 +10,7 @@ use Rattle.rpatl_syntax.specs.Spellable.{HasShare, HasThreshold, HasParts}
 use Rattle.verdicts.specs.declared.verdict.Verdict.{Verdict}
 use Rattle.verdicts.specs.declared.verdict.Verdict.TheVariants.{Yes, No, Undecided, Bracket}
 use Rattle.formula_sets.specs.Posing.{Model}
+use Rattle.formula_truth.specs.declared.way.Way.{Way}
 use Rattle.formula_truth.specs.Truth.{Valuation, IsTruth, states, holds}
 use Rattle.formula_truth.specs.Bands.{Bands, Known, known, negated, both, either, verdict_at}
 use Rattle.verdicts.specs.Verdict.{is_yes, is_no}
@@ -70,8 +71,8 @@ threshold-share AskMin h = absurd h
 
 -- 3. Every state formula.
 
-module _ (m : Model) (game : IsGame m.game) (valuation : Valuation) (truth : IsTruth m valuation) (asked : ℕ) where
-  pub around : (x : State) (b : Bands x) → HasParts x → AreFound m asked x b
+module _ (m : Model) (game : IsGame m.game) (valuation : Valuation) (truth : IsTruth m valuation) (way : Way) where
+  pub around : (x : State) (b : Bands x) → HasParts x → AreFound m way x b
       → IsAround m (holds m.labels valuation x) (known m.labels x b)
   around True b parts found = record { sure = λ s inside h. refl; possible = λ s inside h. refl }
   around False b parts found = record { sure = λ s inside h. h; possible = λ s inside h. h }
@@ -95,7 +96,7 @@ module _ (m : Model) (game : IsGame m.game) (valuation : Valuation) (truth : IsT
       right-by m game f (threshold-share bound parts.0.threshold) (holds m.labels valuation left)
       (holds m.labels valuation right) (known m.labels left b.1) (known m.labels right b.2)
       (around left b.1 parts.1 found.1) (around right b.2 parts.2 found.2)
-      (range_with_len 0 (states m)) asked b.0 found.0.0 kind found.0.1 s inside (valuation f s) (truth f s inside) in
+      (range_with_len 0 (states m)) way b.0 found.0.0 kind found.0.1 s inside (valuation f s) (truth f s inside) in
       record {
         sure = λ s inside. yes-valuation (verdict_at bound b.0 s) (valuation f s) (at s inside);
         possible = λ s inside. valuation-possible (verdict_at bound b.0 s) (valuation f s) (at s inside);

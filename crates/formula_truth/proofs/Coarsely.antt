@@ -27,9 +27,10 @@ use Rattle.verdicts.specs.declared.report.How.{How}
 use Rattle.verdicts.specs.declared.verdict.Verdict.{Verdict}
 use Rattle.verdicts.specs.Verdict.{verdict_of, is_asking}
 use Rattle.verdicts.proofs.Mirrored.{mirrored as mirrored-verdict}
+use Rattle.formula_truth.specs.declared.way.Way.TheVariants.{ByRounds}
 use Rattle.formula_truth.specs.Truth.{states, everywhere, question_by}
 use Rattle.formula_truth.specs.Bands.{Band, Known, verdict_at, exactly, negated}
-use Rattle.formula_truth.specs.Runs.{AreRaced, AreSwept, AreFoundBy, pessimistic, optimistic, units_at, mirrored}
+use Rattle.formula_truth.specs.Runs.{AreAnswered, AreSwept, AreFoundBy, pessimistic, optimistic, units_at, mirrored}
 use Rattle.formula_truth.specs.Sound.{IsAround, IsBetween}
 use Rattle.formula_truth.specs.Coarse.{AreStepped, AreCoarseBy, IsFiner}
 use Rattle.formula_truth.proofs.Posed.{is_query}
@@ -38,7 +39,7 @@ use Rattle.formula_truth.proofs.Stepped.{down_steps-most}
 use Rattle.formula_truth.proofs.Sharper.{IsSharper, test_of, test-more, sharper, nearer}
 use Rattle.formula_truth.proofs.Looked.{IsLookedAt, lower-valuation, upper-valuation, asked-lower, asked-upper}
 use Rattle.formula_truth.proofs.Finer.{stepped-by, down-by, swapped_down-by}
-use Rattle.formula_truth.proofs.Widened.{IsBounded, raced, swept, next-swept, not-within}
+use Rattle.formula_truth.proofs.Widened.{IsBounded, answered, swept, next-swept, not-within}
 
 -- 1. What is shown at a state.
 
@@ -91,11 +92,12 @@ IsNear-under-high q lower upper posed near high s inside =
 module _ (m : Model) (game : IsGame m.game) (f : Tree) (kl kr cl cr : Known) (lc : IsConsistent (states m) kl)
     (rc : IsConsistent (states m) kr) (lf : IsFiner (states m) kl cl) (rf : IsFiner (states m) kr cr) where
   raced-order : (bound : Bound) (starts : List ℕ) (asked : ℕ) (band : Band) (how : How)
-      → AreRaced (pessimistic m f kl kr) (optimistic m f kl kr) bound starts asked band how → (s : ℕ) → s < states m
-      → slice_index band.lower s ≤ slice_index band.upper s
+      → AreAnswered (pessimistic m f kl kr) (optimistic m f kl kr) bound starts (ByRounds asked) band how
+      → (s : ℕ) → s < states m → slice_index band.lower s ≤ slice_index band.upper s
   raced-order bound starts asked band how h s inside =
       let is =
-      raced m game f kl.sure kr.sure kl kr (sure-around m kl lc) (sure-around m kr rc) bound starts asked band how h in
+      answered m game f kl.sure kr.sure kl kr (sure-around m kl lc) (sure-around m kr rc) bound starts (ByRounds asked)
+      band how h in
       IsNear-under-high (question_by m f kl.sure kr.sure) (slice_index band.lower) (slice_index band.upper)
       (is_query m f kl.sure kr.sure game) is.near is.high s inside
 
@@ -117,7 +119,7 @@ module _ (m : Model) (game : IsGame m.game) (f : Tree) (kl kr cl cr : Known) (lc
       )
 
   pub raced-within : (bound : Bound) (starts : List ℕ) (asked : ℕ) (band coarse : Band) (how : How)
-      → AreRaced (pessimistic m f kl kr) (optimistic m f kl kr) bound starts asked band how
+      → AreAnswered (pessimistic m f kl kr) (optimistic m f kl kr) bound starts (ByRounds asked) band how
       → AreStepped (pessimistic m f cl cr) (optimistic m f cl cr) (states m) asked coarse → (s : ℕ) → s < states m
       → IsLookedAt bound starts s → IsWithinAt bound coarse band s
   raced-within bound starts asked band coarse how h c s inside looked =
@@ -126,35 +128,37 @@ module _ (m : Model) (game : IsGame m.game) (f : Tree) (kl kr cl cr : Known) (lc
       let low_is : IsQuery low = is_query m f kl.sure kr.sure game in
       let high_is : IsQuery high = is_query m f kl.possible kr.possible game in
       let down : ℕ = down_steps low asked s in
-      let rest : ℕ = unit - down_steps (swapped high h.high_run.zero) asked s in
+      let low_run = h.low_answer in
+      let high_run = h.high_answer in
+      let rest : ℕ = unit - down_steps (swapped high high_run.zero) asked s in
       let under = coarse-lower asked coarse c s inside in
-      let over = coarse-upper asked coarse h.high_run.zero h.high_run.is_zero c s inside in
-      let lower_is : slice_index band.lower s ≡ slice_index h.low_found.lower.items s =
-      ap (λ (t : List ℕ). slice_index t s) h.lower in
-      let upper_is : slice_index band.upper s ≡ slice_index h.high_found.upper.items s =
-      ap (λ (t : List ℕ). slice_index t s) h.upper in
+      let over = coarse-upper asked coarse high_run.zero high_run.is_zero c s inside in
+      let lower_is : slice_index band.lower s ≡ slice_index low_run.found.lower.items s =
+      ap (λ (t : List ℕ). slice_index t s) low_run.lower_is in
+      let upper_is : slice_index band.upper s ≡ slice_index high_run.found.upper.items s =
+      ap (λ (t : List ℕ). slice_index t s) high_run.upper_is in
       record {
         sharper = sharper bound (slice_index coarse.lower s) (slice_index coarse.upper s) (slice_index band.lower s)
             (slice_index band.upper s) (raced-order bound starts asked band how h s inside)
             (λ passes. ap (test_of bound) lower_is
-            ∙ lower-valuation low h.low_run.zero bound starts asked h.low_found low_is h.low_run.is_zero
-            h.low_run.is_found s inside looked (test-more bound (slice_index coarse.lower s) down under passes))
+            ∙ lower-valuation low low_run.zero bound starts asked low_run.found low_is low_run.is_zero
+            low_run.is_found s inside looked (test-more bound (slice_index coarse.lower s) down under passes))
             (λ passes. test-more bound rest (slice_index coarse.upper s) over
-            (upper-valuation high h.high_run.zero bound starts asked h.high_found high_is h.high_run.is_zero
-            h.high_run.is_found s inside looked (sym (ap (test_of bound) upper_is) ∙ passes)));
+            (upper-valuation high high_run.zero bound starts asked high_run.found high_is high_run.is_zero
+            high_run.is_found s inside looked (sym (ap (test_of bound) upper_is) ∙ passes)));
         lower = λ asking. omega (
           arith,
           lower_is,
           under,
-          asked-lower low h.low_run.zero bound starts asked h.low_found low_is h.low_run.is_zero h.low_run.is_found s
+          asked-lower low low_run.zero bound starts asked low_run.found low_is low_run.is_zero low_run.is_found s
               inside looked asking,
         );
         upper = λ asking. omega (
           arith,
           upper_is,
           over,
-          asked-upper high h.high_run.zero bound starts asked h.high_found high_is h.high_run.is_zero
-              h.high_run.is_found s inside looked asking,
+          asked-upper high high_run.zero bound starts asked high_run.found high_is high_run.is_zero
+              high_run.is_found s inside looked asking,
         );
       }
 
@@ -294,15 +298,15 @@ module _ (m : Model) (game : IsGame m.game) (f : Tree) (small : IsAtMostOne f.bo
     (rf : IsFiner (states m) kr cr)
     (starts : List ℕ) (asked : ℕ) (band coarse : Band) (how : How) (s : ℕ) (inside : s < states m)
     (looked : (bound : Bound) → IsLookedAt bound starts s) where
-  always-within : AreFoundBy Always m f kl kr starts asked band how → AreCoarseBy Always m f cl cr asked coarse
-      → IsWithinAt f.bound coarse band s
+  always-within : AreFoundBy Always m f kl kr starts (ByRounds asked) band how
+      → AreCoarseBy Always m f cl cr asked coarse → IsWithinAt f.bound coarse band s
   always-within h c =
       let g : Tree = dual_of f in
       let bound : Bound = dual_bound f.bound in
       let all : Known = exactly everywhere in
       let consistent = negated-consistent (states m) kr rc in
-      let fine = raced m game g everywhere (negated kr).sure all (negated kr) (sure-around m all (λ t h e. e))
-      (sure-around m (negated kr) consistent) bound starts asked h.0 how h.1 in
+      let fine = answered m game g everywhere (negated kr).sure all (negated kr) (sure-around m all (λ t h e. e))
+      (sure-around m (negated kr) consistent) bound starts (ByRounds asked) h.0 how h.1 in
       let at = raced-within m game g all (negated kr) all (negated cr) (λ t h e. e) consistent
       (exactly-finer (states m) everywhere) (negated-finer (states m) kr cr rf)
       bound starts asked h.0 c.0 how h.1 c.1 s inside (looked bound) in
@@ -313,7 +317,7 @@ module _ (m : Model) (game : IsGame m.game) (f : Tree) (small : IsAtMostOne f.bo
       subst (λ (x : Band). IsWithinAt f.bound x band s) (sym c.2)
       (subst (λ (x : Band). IsWithinAt f.bound (mirrored c.0) x s) (sym h.2) both)
 
-  pub within-by : (kind : PathKind) → AreFoundBy kind m f kl kr starts asked band how
+  pub within-by : (kind : PathKind) → AreFoundBy kind m f kl kr starts (ByRounds asked) band how
       → AreCoarseBy kind m f cl cr asked coarse → IsWithinAt f.bound coarse band s
   within-by Until h c =
       raced-within m game f kl kr cl cr lc rc lf rf f.bound starts asked band coarse how h c s inside (looked f.bound)

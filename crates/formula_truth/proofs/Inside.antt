@@ -16,6 +16,7 @@ use Rattle.formula_sets.specs.Posing.{Model}
 use Rattle.formula_truth.specs.Truth.{states}
 use Rattle.formula_truth.specs.Bands.{Band, Bands, known, surely, possibly, verdict_at, undecided_in}
 use Rattle.verdicts.specs.Verdict.{is_yes, is_no, is_undecided}
+use Rattle.formula_truth.specs.declared.way.Way.TheVariants.{ByRounds}
 use Rattle.formula_truth.specs.Runs.{AreFound, AreFoundBy}
 use Rattle.formula_truth.specs.Coarse.{AreCoarse, AreCoarseBy, IsFiner, IsOpenWithin, AreOpenWithin, IsCoarse}
 use Rattle.formula_truth.specs.Coarse.{AreWithin}
@@ -82,7 +83,7 @@ module _ (m : Model) (game : IsGame m.game) (asked : ℕ) where
   formula-within : (f : Tree) (starts : List ℕ) (bl cl : Bands f.left) (br cr : Bands f.right) (band coarse : Band)
       (how : How) → IsAtMostOne f.bound → IsFiner (states m) (known m.labels f.left bl) (known m.labels f.left cl)
       → IsFiner (states m) (known m.labels f.right br) (known m.labels f.right cr)
-      → AreFoundBy f.kind m f (known m.labels f.left bl) (known m.labels f.right br) starts asked band how
+      → AreFoundBy f.kind m f (known m.labels f.left bl) (known m.labels f.right br) starts (ByRounds asked) band how
       → AreCoarseBy f.kind m f (known m.labels f.left cl) (known m.labels f.right cr) asked coarse → (s : ℕ)
       → s < states m → ((bound : Bound) → IsLookedAt bound starts s) → IsWithinAt f.bound coarse band s
   formula-within f starts bl cl br cr band coarse how small lf rf h c s inside looked =
@@ -91,7 +92,7 @@ module _ (m : Model) (game : IsGame m.game) (asked : ℕ) where
       (λ t within. consistent m.labels f.left bl t) (λ t within. consistent m.labels f.right br t) lf rf starts asked
       band coarse how s inside looked f.kind h c
 
-  pub finer : (x : State) (b c : Bands x) → HasParts x → AreFound m asked x b → AreCoarse m asked x c
+  pub finer : (x : State) (b c : Bands x) → HasParts x → AreFound m (ByRounds asked) x b → AreCoarse m asked x c
       → IsFiner (states m) (known m.labels x b) (known m.labels x c)
   finer True b c parts h k = record { sure = λ s inside e. e; possible = λ s inside e. e }
   finer False b c parts h k = record { sure = λ s inside e. e; possible = λ s inside e. e }
@@ -123,7 +124,7 @@ module _ (m : Model) (game : IsGame m.game) (asked : ℕ) where
 
   -- 3. A formula inside is undecided only where it is by the coarse bounds.
 
-  pub open-within : (x : State) (b c : Bands x) → HasParts x → AreFound m asked x b → AreCoarse m asked x c
+  pub open-within : (x : State) (b c : Bands x) → HasParts x → AreFound m (ByRounds asked) x b → AreCoarse m asked x c
       → AreOpenWithin (states m) x b c
   open-within True b c parts h k = tt
   open-within False b c parts h k = tt
@@ -146,8 +147,8 @@ module _ (m : Model) (game : IsGame m.game) (asked : ℕ) where
 
   pub outermost : (f : Tree) (starts : List ℕ) (bl cl : Bands f.left) (br cr : Bands f.right)
       (band coarse : Band) (how : How) → HasShare f.bound → HasParts f.left → HasParts f.right
-      → All (λ s. s < states m) starts → AreFound m asked f.left bl → AreFound m asked f.right br
-      → AreFoundBy f.kind m f (known m.labels f.left bl) (known m.labels f.right br) starts asked band how
+      → All (λ s. s < states m) starts → AreFound m (ByRounds asked) f.left bl → AreFound m (ByRounds asked) f.right br
+      → AreFoundBy f.kind m f (known m.labels f.left bl) (known m.labels f.right br) starts (ByRounds asked) band how
       → IsCoarse m f asked cl cr coarse → AreWithin f.bound starts band coarse
   outermost f starts bl cl br cr band coarse how share left right inside lh rh h c =
       let at : All (λ s. IsWithinAt f.bound coarse band s) starts = λ k d there.

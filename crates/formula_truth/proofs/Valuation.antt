@@ -28,12 +28,13 @@ use Rattle.verdicts.specs.Verdict.{verdict_of}
 use Rattle.verdicts.proofs.Settled.{AreSound, yes-true, no-false, false-not_true}
 use Rattle.verdicts.proofs.Fractions.{right}
 use Rattle.verdicts.proofs.Mirrored.{mirrored as mirrored-verdict}
+use Rattle.formula_truth.specs.declared.way.Way.{Way}
 use Rattle.formula_truth.specs.Truth.{states, question_by, dual_question_by, everywhere, IsTrueBy}
 use Rattle.formula_truth.specs.Bands.{Band, Known, verdict_at, exactly, negated}
 use Rattle.formula_truth.specs.Runs.{AreFoundBy, mirrored}
 use Rattle.formula_truth.specs.Sound.{IsAround, IsBetween, IsRightOf}
 use Rattle.formula_truth.proofs.Posed.{is_query}
-use Rattle.formula_truth.proofs.Widened.{IsBounded, raced, swept, next-swept, negated-around, exactly-around}
+use Rattle.formula_truth.proofs.Widened.{IsBounded, answered, swept, next-swept, negated-around, exactly-around}
 use Rattle.formula_truth.proofs.Widened.{complement-at}
 
 -- a verdict that is right of a fact, where the truth tells of it
@@ -90,7 +91,7 @@ small-share AskMax h = tt
 small-share AskMin h = tt
 
 module _ (m : Model) (game : IsGame m.game) (f : Tree) (share : HasShare f.bound) (left right : ℕ → Bool)
-    (kl kr : Known) (la : IsAround m left kl) (ra : IsAround m right kr) (starts : List ℕ) (asked : ℕ)
+    (kl kr : Known) (la : IsAround m left kl) (ra : IsAround m right kr) (starts : List ℕ) (way : Way)
     (band : Band) (how : How) where
   some-parts : 1 ≤ denominator m.game
   some-parts = denominator-pos m.game game
@@ -113,11 +114,11 @@ module _ (m : Model) (game : IsGame m.game) (f : Tree) (share : HasShare f.bound
       (settled-right q (dual_bound f.bound) lower upper s truth
       (sound-at q lower upper s dual_query found.near found.high inside) iff)
 
-  pub right-by : (kind : PathKind) → AreFoundBy kind m f kl kr starts asked band how → (s : ℕ) → s < states m
+  pub right-by : (kind : PathKind) → AreFoundBy kind m f kl kr starts way band how → (s : ℕ) → s < states m
       → (truth : Bool) → (truth ≡ true) ↔ IsTrueBy kind m f left right s → IsRightOf (verdict_at f.bound band s) truth
   right-by Until h s inside truth iff =
       let q = question_by m f left right in
-      let found = raced m game f left right kl kr la ra f.bound starts asked band how h in
+      let found = answered m game f left right kl kr la ra f.bound starts way band how h in
       settled-right q f.bound (slice_index band.lower) (slice_index band.upper) s truth
       (sound-at q (slice_index band.lower) (slice_index band.upper) s
       (is_query m f left right game) found.near found.high inside) iff
@@ -130,7 +131,7 @@ module _ (m : Model) (game : IsGame m.game) (f : Tree) (share : HasShare f.bound
       (slice_index band.lower s) (slice_index band.upper s) truth some-parts
       (next-swept m game f left right kl kr la ra band how h s inside) iff
   right-by Always h s inside truth iff =
-      let found = raced m game (dual_of f) everywhere (λ s. not (right s)) (exactly everywhere) (negated kr)
-      (exactly-around m everywhere) (negated-around m right kr ra) (dual_bound f.bound) starts asked h.0 how h.1 in
+      let found = answered m game (dual_of f) everywhere (λ s. not (right s)) (exactly everywhere) (negated kr)
+      (exactly-around m everywhere) (negated-around m right kr ra) (dual_bound f.bound) starts way h.0 how h.1 in
       subst (λ (b : Band). IsRightOf (verdict_at f.bound b s) truth) (sym h.2)
       (always-right h.0 found s inside truth iff)

@@ -1,11 +1,13 @@
 -- Bounds of the sure and the possible states are sound for the states between.
-use Rattle.std.proofs.Common.{◌≡◌, ◌∙◌, ◌<◌, ◌≤◌, ◌+◌, ◌-◌, ◌*◌, ◌^◌, ℕ, Bool, true, false, not, List, length, arith}
+use Rattle.std.proofs.Common.{◌≡◌, ◌<◌, ◌≤◌, ◌+◌, ◌-◌, ◌*◌, ◌^◌, ℕ, Bool, true, false, not, List, length, arith}
 use Rattle.std.proofs.Common.{sym, ap, subst, refl}
 use Rattle.std.specs.Prelude.{slice_index, All}
 use Rattle.std.proofs.Math.Nat.{mul-le-mul_left}
 use Rattle.std.proofs.lemmas.List.{get_or-map}
+use Rattle.std.proofs.lemmas.List.Elements.{All-from_get_or}
 use Rattle.game_model.specs.Game.{IsGame}
 use Rattle.game_model.specs.Limits.{unit}
+use Rattle.game_model.specs.Query.{Query, IsQuery}
 use Rattle.game_model.specs.Values.{denominator, numerator}
 use Rattle.game_model.specs.Bounds.{IsNear, IsHigh}
 use Rattle.game_model.specs.Rounded.{opening}
@@ -19,11 +21,15 @@ use Rattle.formula_sets.specs.Posing.{Model, next_question_of}
 use Rattle.formula_sets.proofs.AskingNext.{never_marked}
 use Rattle.bounded_rounds.specs.Exact.{next_numerator, IsNext}
 use Rattle.bounded_rounds.proofs.Bracketed.{IsBracketed-opening, IsBracketed-next}
+use Rattle.rank_certificate.proofs.Nearness.{Ranked-near}
 use Rattle.verdicts.specs.declared.report.How.{How}
+use Rattle.formula_truth.specs.declared.way.Way.{Way}
+use Rattle.formula_truth.specs.declared.way.Way.TheVariants.{ByRounds, BySolver}
 use Rattle.formula_truth.specs.Truth.{states, question_by, dual_question_by, everywhere}
 use Rattle.formula_truth.specs.Rest.{IsBelowRest, IsNearRest}
 use Rattle.formula_truth.specs.Bands.{Band, Known, exactly, negated}
-use Rattle.formula_truth.specs.Runs.{AreRaced, AreSwept, AreFoundBy, pessimistic, optimistic, units_at, mirrored}
+use Rattle.formula_truth.specs.Runs.{IsAnsweredBy, AreAnswered, AreSwept, AreFoundBy, pessimistic, optimistic, units_at}
+use Rattle.formula_truth.specs.Runs.{mirrored}
 use Rattle.formula_truth.specs.Sound.{IsAround, IsBetween, AreSoundBy}
 use Rattle.formula_truth.proofs.Ordered.{next_numerator-wider}
 use Rattle.formula_truth.proofs.Posed.{is_query, is_next_query, numerator-rises, IsNear-rises, IsHigh-falls}
@@ -45,7 +51,43 @@ negated-around m holds k h = record {
 pub exactly-around : (m : Model) (holds : ℕ → Bool) → IsAround m holds (exactly holds)
 exactly-around m holds = record { sure = λ s inside e. e; possible = λ s inside e. e }
 
--- 2. Rounds.
+-- 2. An answer to a question is sound, whoever found it.
+
+record IsSoundAnswer (q : Query) (lower upper : List ℕ) : Type 0 where
+  near : IsNear q (slice_index lower)
+  high : IsHigh q (slice_index upper)
+  lowers : length lower ≡ length q.game
+  uppers : length upper ≡ length q.game
+  lower_units : All (λ v. v ≤ unit) lower
+  upper_units : All (λ v. v ≤ unit) upper
+
+sound-answer : (way : Way) (q : Query) (bound : Bound) (starts lower upper : List ℕ) (how : How) → IsQuery q
+    → IsAnsweredBy way q bound starts lower upper how → IsSoundAnswer q lower upper
+sound-answer (ByRounds asked) q bound starts lower upper how posed h =
+    let found = h.is_found in
+    let least = found.bounds.made.least_upper.table in
+    subst (λ (t : List ℕ). IsSoundAnswer q t upper) (sym h.lower_is)
+    (subst (λ (t : List ℕ). IsSoundAnswer q h.found.lower.items t) (sym h.upper_is) (record {
+      near = found.lower.near;
+      high = found.bounds.sound.high;
+      lowers = found.lower.as_many;
+      uppers = least.many;
+      lower_units = found.lower.units;
+      upper_units = least.units;
+    }))
+sound-answer BySolver q bound starts lower upper how posed h =
+    let table : List ℕ = h.plan.lower.items in
+    let ranked = h.passes.ranked in
+    subst (λ (t : List ℕ). IsSoundAnswer q t upper) (sym h.lower_is)
+    (subst (λ (t : List ℕ). IsSoundAnswer q table t) (sym h.upper_is) (record {
+      near = Ranked-near q table h.plan.choices.items h.plan.ranks.items posed ranked;
+      high = h.sound.high;
+      lowers = h.lists.lower;
+      uppers = h.lists.upper;
+      lower_units = All-from_get_or (λ v. v ≤ unit) table 0
+          (λ s within. ranked.units s (omega (arith, within, h.lists.lower)));
+      upper_units = h.passes.units;
+    }))
 
 pub record IsBounded (m : Model) (f : Tree) (left right : ℕ → Bool) (band : Band) : Type 0 where
   pub near : IsNear (question_by m f left right) (slice_index band.lower)
@@ -57,23 +99,22 @@ pub record IsBounded (m : Model) (f : Tree) (left right : ℕ → Bool) (band : 
 
 module _ (m : Model) (game : IsGame m.game) (f : Tree) (left right : ℕ → Bool) (kl kr : Known) (la : IsAround m left kl)
     (ra : IsAround m right kr) where
-  pub raced : (bound : Bound) (starts : List ℕ) (asked : ℕ) (band : Band) (how : How)
-      → AreRaced (pessimistic m f kl kr) (optimistic m f kl kr) bound starts asked band how
+  pub answered : (bound : Bound) (starts : List ℕ) (way : Way) (band : Band) (how : How)
+      → AreAnswered (pessimistic m f kl kr) (optimistic m f kl kr) bound starts way band how
       → IsBounded m f left right band
-  raced bound starts asked band how h =
-      let low = h.low_run.is_found in
-      let high = h.high_run.is_found in
+  answered bound starts way band how h =
+      let low = sound-answer way (pessimistic m f kl kr) bound starts band.lower h.low_upper how
+      (is_query m f kl.sure kr.sure game) h.low_answer in
+      let high = sound-answer way (optimistic m f kl kr) bound starts h.high_lower band.upper h.high_how
+      (is_query m f kl.possible kr.possible game) h.high_answer in
       record {
-        near = IsNear-rises m f kl.sure kr.sure left right game la.sure ra.sure (slice_index band.lower)
-            (subst (λ (t : List ℕ). IsNear (pessimistic m f kl kr) (slice_index t)) (sym h.lower) low.lower.near);
+        near = IsNear-rises m f kl.sure kr.sure left right game la.sure ra.sure (slice_index band.lower) low.near;
         high = IsHigh-falls m f left right kl.possible kr.possible game la.possible ra.possible
-            (slice_index band.upper) (subst (λ (t : List ℕ). IsHigh (optimistic m f kl kr) (slice_index t))
-            (sym h.upper) high.bounds.sound.high);
-        lowers = ap (λ (t : List ℕ). length t) h.lower ∙ low.lower.as_many;
-        uppers = ap (λ (t : List ℕ). length t) h.upper ∙ high.bounds.made.least_upper.table.many;
-        lower_units = subst (λ (t : List ℕ). All (λ v. v ≤ unit) t) (sym h.lower) low.lower.units;
-        upper_units = subst (λ (t : List ℕ). All (λ v. v ≤ unit) t)
-            (sym h.upper) high.bounds.made.least_upper.table.units;
+            (slice_index band.upper) high.high;
+        lowers = low.lowers;
+        uppers = high.uppers;
+        lower_units = low.lower_units;
+        upper_units = high.upper_units;
       }
 
   -- 3. So many steps.
@@ -164,15 +205,15 @@ module _ (m : Model) (f : Tree) (right : ℕ → Bool) (other : Band)
 -- 6. Every kind of path.
 
 module _ (m : Model) (game : IsGame m.game) (f : Tree) (left right : ℕ → Bool) (kl kr : Known) (la : IsAround m left kl)
-    (ra : IsAround m right kr) (starts : List ℕ) (asked : ℕ) (band : Band) (how : How) where
-  pub sound-by : (kind : PathKind) → AreFoundBy kind m f kl kr starts asked band how
+    (ra : IsAround m right kr) (starts : List ℕ) (way : Way) (band : Band) (how : How) where
+  pub sound-by : (kind : PathKind) → AreFoundBy kind m f kl kr starts way band how
       → AreSoundBy kind m f left right band
   sound-by Until h =
-      let found = raced m game f left right kl kr la ra f.bound starts asked band how h in
+      let found = answered m game f left right kl kr la ra f.bound starts way band how h in
       (found.near, found.high)
   sound-by (Within k) h = swept m game f left right kl kr la ra k band how h
   sound-by Next h = next-swept m game f left right kl kr la ra band how h
   sound-by Always h =
-      let found = raced m game (dual_of f) everywhere (λ s. not (right s)) (exactly everywhere) (negated kr)
-      (exactly-around m everywhere) (negated-around m right kr ra) (dual_bound f.bound) starts asked h.0 how h.1 in
+      let found = answered m game (dual_of f) everywhere (λ s. not (right s)) (exactly everywhere) (negated kr)
+      (exactly-around m everywhere) (negated-around m right kr ra) (dual_bound f.bound) starts way h.0 how h.1 in
       subst (λ (b : Band). AreSoundBy Always m f left right b) (sym h.2) (mirrored-sound m f right h.0 found)

@@ -1,9 +1,9 @@
--- Bounds that runs find for a formula whose sides are known in part: lower ones for the question of the sure states,
+-- Bounds that are found for a formula whose sides are known in part: lower ones for the question of the sure states,
 -- upper ones for that of the possible states.
 use Rattle.std.specs.Prelude.{◌≡◌, ℕ, Bool, List, if◌then◌else◌}
 use Rattle.std.specs.List.{range_with_len}
 use Rattle.game_model.specs.Limits.{unit}
-use Rattle.game_model.specs.Query.{Query}
+use Rattle.game_model.specs.Query.{Query, states as states_in}
 use Rattle.game_model.specs.Rounded.{opening}
 use Rattle.game_model.specs.Dual.{IsZeroSet}
 use Rattle.formula_reader.specs.declared.formula.Bound.{Bound}
@@ -17,28 +17,60 @@ use Rattle.bracket_engine.specs.declared.bounds.Bracket.{Bracket}
 use Rattle.bracket_engine.specs.Bracket.{complements_of}
 use Rattle.bracket_engine.specs.Found.{IsFound}
 use Rattle.verdicts.specs.declared.report.How.{How}
-use Rattle.verdicts.specs.declared.report.How.TheVariants.{Rounds, Steps}
+use Rattle.verdicts.specs.declared.report.How.TheVariants.{Rounds, Steps, Solved}
+use Rattle.plan_text.specs.declared.plan.Plan.{Plan}
+use Rattle.plan_text.specs.Entries.{HasStates}
+use Rattle.certificate_audit.specs.Accepted.{Passes, IsSoundPlan}
+use Rattle.solved_plans.specs.Plans.{IsSureExactly, IsZeroExactly}
+use Rattle.formula_truth.specs.declared.way.Way.{Way}
+use Rattle.formula_truth.specs.declared.way.Way.TheVariants.{ByRounds, BySolver}
 use Rattle.formula_truth.specs.Truth.{states, question_by, everywhere}
 use Rattle.formula_truth.specs.Bands.{Band, Bands, Known, known, exactly, negated}
 
--- a bracket of a question after at most so many rounds, over its zero set
-pub record IsRun (q : Query) (bound : Bound) (starts : List ℕ) (asked : ℕ) (found : Bracket) : Type 0 where
+-- how many rounds are made at most
+abbrev pub rounds_of : Way → ℕ
+rounds_of (ByRounds asked) = asked
+rounds_of BySolver = 0
+
+-- the bounds are a bracket of a question after at most so many rounds, over its zero set
+pub record IsRun (q : Query) (bound : Bound) (starts : List ℕ) (asked : ℕ) (lower upper : List ℕ)
+    (how : How) : Type 0 where
   pub zero : List Bool
   pub is_zero : IsZeroSet q zero
+  pub found : Bracket
   pub is_found : IsFound q zero bound starts asked found
+  pub lower_is : lower ≡ found.lower.items
+  pub upper_is : upper ≡ found.upper.items
+  pub rounds : how ≡ Rounds found.rounds
 
--- The lower bounds are those of a bracket of one question, the upper ones those of a bracket of another, each after at
--- most so many rounds; of the same bracket where the questions are the same.
-pub record AreRaced (low high : Query) (bound : Bound) (starts : List ℕ) (asked : ℕ) (band : Band)
+-- the bounds are those of a plan of a question that passes the checks of an audit and is sound, and which is 1 and 0
+-- where the graph alone says so
+pub record IsPlanned (q : Query) (lower upper : List ℕ) (how : How) : Type 0 where
+  pub plan : Plan
+  pub lists : HasStates plan (states_in q)
+  pub passes : Passes q plan
+  pub sound : IsSoundPlan q plan
+  pub sure : IsSureExactly q plan
+  pub zero : IsZeroExactly q plan
+  pub lower_is : lower ≡ plan.lower.items
+  pub upper_is : upper ≡ plan.upper.items
+  pub solved : how ≡ Solved
+
+-- a question is answered by these bounds, in this way
+abbrev pub IsAnsweredBy : Way → Query → Bound → List ℕ → List ℕ → List ℕ → How → Type 0
+IsAnsweredBy (ByRounds asked) q bound starts lower upper how = IsRun q bound starts asked lower upper how
+IsAnsweredBy BySolver q bound starts lower upper how = IsPlanned q lower upper how
+
+-- The lower bounds are those of an answer to one question, the upper ones those of an answer to another; of the same
+-- answer where the questions are the same.
+pub record AreAnswered (low high : Query) (bound : Bound) (starts : List ℕ) (way : Way) (band : Band)
     (how : How) : Type 0 where
-  pub low_found : Bracket
-  pub low_run : IsRun low bound starts asked low_found
-  pub high_found : Bracket
-  pub high_run : IsRun high bound starts asked high_found
-  pub one : low ≡ high → low_found ≡ high_found
-  pub lower : band.lower ≡ low_found.lower.items
-  pub upper : band.upper ≡ high_found.upper.items
-  pub rounds : how ≡ Rounds low_found.rounds
+  pub low_upper : List ℕ
+  pub low_answer : IsAnsweredBy way low bound starts band.lower low_upper how
+  pub high_lower : List ℕ
+  pub high_how : How
+  pub high_answer : IsAnsweredBy way high bound starts high_lower band.upper high_how
+  pub one : low ≡ high → low_upper ≡ band.upper
 
 -- The lower bounds are so many down steps of one table for one question, the upper ones as many up steps of another for
 -- another.
@@ -68,30 +100,30 @@ mirrored band = record { lower = complements_of band.upper; upper = complements_
 
 -- the bounds of a formula with a path of this kind, of which `starts` are the states where a run looks whether its
 -- threshold is settled
-abbrev pub AreFoundBy : PathKind → Model → Tree → Known → Known → List ℕ → ℕ → Band → How → Type 0
-AreFoundBy Until m f left right starts asked band how =
-    AreRaced (pessimistic m f left right) (optimistic m f left right) f.bound starts asked band how
-AreFoundBy (Within k) m f left right starts asked band how =
+abbrev pub AreFoundBy : PathKind → Model → Tree → Known → Known → List ℕ → Way → Band → How → Type 0
+AreFoundBy Until m f left right starts way band how =
+    AreAnswered (pessimistic m f left right) (optimistic m f left right) f.bound starts way band how
+AreFoundBy (Within k) m f left right starts way band how =
     AreSwept (pessimistic m f left right) (optimistic m f left right) (opening (pessimistic m f left right))
     (opening (optimistic m f left right)) k band how
-AreFoundBy Next m f left right starts asked band how =
+AreFoundBy Next m f left right starts way band how =
     AreSwept (next_question_of m.game m.owners f) (next_question_of m.game m.owners f) (units_at right.sure)
     (units_at right.possible) 1 band how
-AreFoundBy Always m f left right starts asked band how =
-    (other : Band) × AreRaced (pessimistic m (dual_of f) (exactly everywhere) (negated right))
-    (optimistic m (dual_of f) (exactly everywhere) (negated right)) (dual_bound f.bound) starts asked other how
+AreFoundBy Always m f left right starts way band how =
+    (other : Band) × AreAnswered (pessimistic m (dual_of f) (exactly everywhere) (negated right))
+    (optimistic m (dual_of f) (exactly everywhere) (negated right)) (dual_bound f.bound) starts way other how
     × (band ≡ mirrored other)
 
--- each formula inside has bounds so, and its runs look at every state
-abbrev pub AreFound : Model → ℕ → (x : State) → Bands x → Type 0
-AreFound m asked True b = Unit {0}
-AreFound m asked False b = Unit {0}
-AreFound m asked (Label name) b = Unit {0}
-AreFound m asked (Not x) b = AreFound m asked x b
-AreFound m asked (And x y) b = AreFound m asked x b.0 × AreFound m asked y b.1
-AreFound m asked (Or x y) b = AreFound m asked x b.0 × AreFound m asked y b.1
-AreFound m asked (Implies x y) b = AreFound m asked x b.0 × AreFound m asked y b.1
-AreFound m asked (Inner team bound kind left right) b =
+-- each formula inside has bounds so, and a run of its rounds looks at every state
+abbrev pub AreFound : Model → Way → (x : State) → Bands x → Type 0
+AreFound m way True b = Unit {0}
+AreFound m way False b = Unit {0}
+AreFound m way (Label name) b = Unit {0}
+AreFound m way (Not x) b = AreFound m way x b
+AreFound m way (And x y) b = AreFound m way x b.0 × AreFound m way y b.1
+AreFound m way (Or x y) b = AreFound m way x b.0 × AreFound m way y b.1
+AreFound m way (Implies x y) b = AreFound m way x b.0 × AreFound m way y b.1
+AreFound m way (Inner team bound kind left right) b =
     ((how : How) × AreFoundBy kind m (record {
       coalition = team;
       bound = bound;
@@ -99,5 +131,5 @@ AreFound m asked (Inner team bound kind left right) b =
       left = left;
       right = right;
     }) (known m.labels left b.1) (known m.labels right b.2)
-    (range_with_len 0 (states m)) asked b.0 how)
-    × AreFound m asked left b.1 × AreFound m asked right b.2
+    (range_with_len 0 (states m)) way b.0 how)
+    × AreFound m way left b.1 × AreFound m way right b.2

@@ -6,6 +6,7 @@ ghost use Rattle.rpatl_syntax.specs.Spellable.{HasThreshold, IsShare, IsSpellabl
 ghost use Rattle.bracket_engine.specs.Limits.{most_rounds};
 
 use distributions::{Frac, read_number};
+use formula_truth::Way;
 use game_model::UNIT;
 use game_outside::{Name, OpenGate};
 use label_reader::{Labels, Owners, read_labels};
@@ -117,7 +118,7 @@ fn answer_of<R: Threads + Sync>(
         &labels,
         &owners,
         formula,
-        rounds,
+        Way::ByRounds(rounds),
         1,
         &OpenGate {},
     ) {

@@ -6,6 +6,7 @@ ghost use Rattle.formula_reader.specs.Formula.{formulas_inside, tree_of};
 ghost use Rattle.formula_tokens.specs.Limits.{longest};
 ghost use Rattle.rpatl_syntax.specs.Spellable.{IsSpellable};
 ghost use Rattle.bracket_engine.specs.Limits.{most_rounds};
+ghost use Rattle.formula_truth.specs.Runs.{rounds_of};
 ghost use Rattle.bounded_rounds.specs.Limits.{most_workers};
 
 use crate::checks::{lie_around, lie_near, said, steps_of};
@@ -15,6 +16,7 @@ use crate::models::{Model, random_model, random_trapping_game};
 use crate::tally::Tally;
 use crate::values::{Exact, share_of};
 use formula_reader::laws::{formulas_are_those_that_a_text_denotes, formulas_inside_are_few};
+use formula_truth::Way;
 use game_outside::OpenGate;
 use nested_truth::{Nested, nested};
 use rpatl_syntax::laws::formulas_of_texts_are_spellable;
@@ -88,10 +90,10 @@ fn answer_of<R: Threads + Sync>(
     alloc: Global,
     model: &Model<'_>,
     text: &str,
-    rounds: u32,
+    way: Way,
     workers: u32,
 ) -> Result<Nested, Fail>
-    requires rounds { rounds ≤ most_rounds }
+    requires rounds { rounds_of way ≤ most_rounds }
     requires some { 1 ≤ workers }
     requires few { workers ≤ most_workers }
 {
@@ -103,7 +105,7 @@ fn answer_of<R: Threads + Sync>(
         &model.labels,
         &model.owners,
         &formula,
-        rounds,
+        way,
         workers,
         &OpenGate {},
     ) {
@@ -231,18 +233,18 @@ fn compare<R: Threads + Sync>(
     alloc: Global,
     model: &Model<'_>,
     valued: &Valued<'_>,
-    rounds: u32,
+    way: Way,
     workers: u32,
     tally: &mut Tally,
 ) -> Result<Compared, Fail>
-    requires rounds { rounds ≤ most_rounds }
+    requires rounds { rounds_of way ≤ most_rounds }
     requires some { 1 ≤ workers }
     requires few { workers ≤ most_workers }
 {
     let mut text = String::new(alloc);
     valued.formula.add_text(alloc, &mut text, 0)?;
     let text = text.as_str();
-    let answer = answer_of(rt, alloc, model, text, rounds, workers)?;
+    let answer = answer_of(rt, alloc, model, text, way, workers)?;
     compare_answer(valued, &answer, model.seen.of_second.len(), text, tally)
 }
 
@@ -253,21 +255,21 @@ fn compare_all<R: Threads + Sync>(
     alloc: Global,
     model: &Model<'_>,
     all: &[Valued<'_>],
-    rounds: u32,
+    way: Way,
     workers: u32,
     tally: &mut Tally,
 ) -> Result<(), Fail>
-    requires rounds { rounds ≤ most_rounds }
+    requires rounds { rounds_of way ≤ most_rounds }
     requires some { 1 ≤ workers }
     requires few { workers ≤ most_workers }
 {
     let [outermost, inside @ ..] = all else {
         return Err(Fail::new("no formula"));
     };
-    let found = compare(rt, alloc, model, outermost, rounds, workers, tally)?;
+    let found = compare(rt, alloc, model, outermost, way, workers, tally)?;
     let mut open: u32 = 0;
     for one in inside {
-        let count = compare(rt, alloc, model, one, rounds, workers, tally)?.open;
+        let count = compare(rt, alloc, model, one, way, workers, tally)?.open;
         open = open.saturating_add(count);
     }
     same("formulas inside", found.inner as usize, inside.len())?;
@@ -278,7 +280,7 @@ fn compare_all<R: Threads + Sync>(
     Ok(())
 }
 
-// Compares the answers of ample rounds and of few for a formula.
+// Compares the answers of ample rounds, of few and of a solver for a formula.
 fn compare_formula<R: Threads + Sync>(
     rt: &R,
     alloc: Global,
@@ -287,11 +289,13 @@ fn compare_formula<R: Threads + Sync>(
     number: u32,
     ample: &mut Tally,
     few: &mut Tally,
+    solved: &mut Tally,
 ) -> Result<(), Fail> {
     let all = with_values(alloc, model, formula)?;
     let workers = if number % 4 == 3 { 3 } else { 1 };
-    compare_all(rt, alloc, model, &all, AMPLE, workers, ample)?;
-    compare_all(rt, alloc, model, &all, number % 3, 1, few)
+    compare_all(rt, alloc, model, &all, Way::ByRounds(AMPLE), workers, ample)?;
+    compare_all(rt, alloc, model, &all, Way::ByRounds(number % 3), 1, few)?;
+    compare_all(rt, alloc, model, &all, Way::BySolver, 1, solved)
 }
 
 // The same for a game and a formula that are drawn.
@@ -302,11 +306,12 @@ fn compare_drawn<R: Threads + Sync>(
     number: u32,
     ample: &mut Tally,
     few: &mut Tally,
+    solved: &mut Tally,
 ) -> Result<(), Fail> {
     let game = random_trapping_game(alloc, draw).ok_or("no game")?;
     let model = random_model(alloc, draw, &game)?;
     let formula = random_formula(alloc, draw).ok_or("no formula")?;
-    compare_formula(rt, alloc, &model, &formula, number, ample, few)
+    compare_formula(rt, alloc, &model, &formula, number, ample, few, solved)
 }
 
 #[test]
@@ -315,9 +320,19 @@ fn answers_with_formulas_inside_are_right_over_random_games(rt: HostRuntime) -> 
     let mut draw = Draw::new(43);
     let mut ample = Tally::new();
     let mut few = Tally::new();
+    let mut solved = Tally::new();
     for number in 0..500 {
-        compare_drawn(&rt, alloc, &mut draw, number, &mut ample, &mut few)?;
+        compare_drawn(
+            &rt,
+            alloc,
+            &mut draw,
+            number,
+            &mut ample,
+            &mut few,
+            &mut solved,
+        )?;
     }
     ample.is_telling(300, 0)?;
-    few.is_telling(200, 30)
+    few.is_telling(200, 30)?;
+    solved.is_telling(300, 0)
 }

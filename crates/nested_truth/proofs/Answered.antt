@@ -18,15 +18,15 @@ use Rattle.formula_tokens.specs.Limits.{longest}
 use Rattle.rpatl_syntax.specs.Spellable.{IsSpellable}
 use Rattle.bracket_engine.specs.Bracket.{complements_of}
 use Rattle.verdicts.specs.declared.report.How.{How}
-use Rattle.verdicts.specs.declared.verdict.Verdict.TheVariants.{Undecided}
 use Rattle.nested_truth.specs.declared.judging.Judged.{Judged}
 use Rattle.formula_sets.specs.Posing.{Model}
+use Rattle.formula_truth.specs.declared.way.Way.{Way}
+use Rattle.formula_truth.specs.declared.way.Way.TheVariants.{ByRounds}
 use Rattle.formula_truth.specs.Truth.{Valuation, IsTruth, states, holds, everywhere}
 use Rattle.formula_truth.specs.Bands.{Band, Known, known, exactly, negated, judgement, undecided_at, undecided_in}
 use Rattle.formula_truth.specs.Bands.{verdict_at}
-use Rattle.formula_truth.specs.Runs.{AreFoundBy, AreRaced, pessimistic, optimistic, mirrored}
-use Rattle.nested_truth.specs.Open.{IsOpenBy}
-use Rattle.nested_truth.specs.Nested.{IsNested}
+use Rattle.formula_truth.specs.Runs.{AreFound, AreFoundBy, AreAnswered, pessimistic, optimistic, mirrored}
+use Rattle.nested_truth.specs.Nested.{RoundsPromise, IsNested}
 use Rattle.nested_truth.specs.Seen.{AreAlike, IsBand, IsJudged, seen}
 use Rattle.formula_truth.specs.Sound.{IsAround, IsRightOf, AreSoundBy}
 use Rattle.nested_truth.proofs.Parts.{alike-back}
@@ -66,43 +66,43 @@ if_ok-band n view (Err e) other band is = tt
 
 module _ (m : Model) (f dual : Tree) (is : dual ≡ dual_of f) (kl kr right : Known)
     (lefts : AreAlike (states m) (exactly everywhere) kl) (rights : AreAlike (states m) (negated right) kr)
-    (starts : List ℕ) (asked : ℕ) (other : Band) (how : How)
-    (found : AreFoundBy Until m dual kl kr starts asked other how) where
-  dual-raced : AreRaced (pessimistic m (dual_of f) (exactly everywhere) (negated right))
-      (optimistic m (dual_of f) (exactly everywhere) (negated right)) (dual_bound f.bound) starts asked other how
-  dual-raced =
+    (starts : List ℕ) (way : Way) (other : Band) (how : How)
+    (found : AreFoundBy Until m dual kl kr starts way other how) where
+  dual-answered : AreAnswered (pessimistic m (dual_of f) (exactly everywhere) (negated right))
+      (optimistic m (dual_of f) (exactly everywhere) (negated right)) (dual_bound f.bound) starts way other how
+  dual-answered =
       both-same m (dual_of f) kl kr (exactly everywhere) (negated right)
       (alike-back (states m) (exactly everywhere) kl lefts) (alike-back (states m) (negated right) kr rights)
-      (λ low high. AreRaced low high (dual_bound f.bound) starts asked other how)
-      (subst (λ (t : Tree). AreFoundBy Until m t kl kr starts asked other how) is found)
+      (λ low high. AreAnswered low high (dual_bound f.bound) starts way other how)
+      (subst (λ (t : Tree). AreFoundBy Until m t kl kr starts way other how) is found)
 
   pub always-found : {X E : Type 0} (view : X → Band) (ways : X → How) (result : Result X E)
       → IfOk result (λ x. view x ≡ mirrored other) → IfOk result (λ x. ways x ≡ how)
-      → IfOk result (λ x. (left : Known) → AreFoundBy Always m f left right starts asked (view x) (ways x))
+      → IfOk result (λ x. (left : Known) → AreFoundBy Always m f left right starts way (view x) (ways x))
   always-found view ways (Ok x) band same = λ left. (
     other,
-    subst (λ (h : How). AreRaced (pessimistic m (dual_of f) (exactly everywhere) (negated right))
-        (optimistic m (dual_of f) (exactly everywhere) (negated right)) (dual_bound f.bound) starts asked other h)
-        (sym same) dual-raced,
+    subst (λ (h : How). AreAnswered (pessimistic m (dual_of f) (exactly everywhere) (negated right))
+        (optimistic m (dual_of f) (exactly everywhere) (negated right)) (dual_bound f.bound) starts way other h)
+        (sym same) dual-answered,
     band,
   )
   always-found view ways (Err e) band same = tt
 
 pub always-of : {X E : Type 0} (kind : PathKind) → kind ≡ Always → (m : Model) (f : Tree) (left right : Known)
-    (starts : List ℕ) (asked : ℕ) (view : X → Band) (ways : X → How) (result : Result X E)
-    → IfOk result (λ x. (any : Known) → AreFoundBy Always m f any right starts asked (view x) (ways x))
-    → IfOk result (λ x. AreFoundBy kind m f left right starts asked (view x) (ways x))
-always-of kind is m f left right starts asked view ways (Ok x) found =
-    subst (λ (k : PathKind). AreFoundBy k m f left right starts asked (view x) (ways x)) (sym is) (found left)
-always-of kind is m f left right starts asked view ways (Err e) found = tt
+    (starts : List ℕ) (way : Way) (view : X → Band) (ways : X → How) (result : Result X E)
+    → IfOk result (λ x. (any : Known) → AreFoundBy Always m f any right starts way (view x) (ways x))
+    → IfOk result (λ x. AreFoundBy kind m f left right starts way (view x) (ways x))
+always-of kind is m f left right starts way view ways (Ok x) found =
+    subst (λ (k : PathKind). AreFoundBy k m f left right starts way (view x) (ways x)) (sym is) (found left)
+always-of kind is m f left right starts way view ways (Err e) found = tt
 
 -- 2. There are few undecided pairs.
 
 pairs-few : (a n : ℕ) → a ≤ longest → n ≤ most_states → a * n < 2 ^ 32
 pairs-few a n h k = omega (arith, mul-le-mul_right n h, mul-le-mul_left longest k)
 
-module _ (m : Model) (game : IsGame m.game) (asked : ℕ) (x y : State) (one other : Judged) (h : IsJudged m asked x one)
-    (i : IsJudged m asked y other) where
+module _ (m : Model) (game : IsGame m.game) (way : Way) (x y : State) (one other : Judged) (h : IsJudged m way x one)
+    (i : IsJudged m way y other) where
   pub undecided-fits : formulas_in x + formulas_in y ≤ longest → one.undecided + other.undecided < 2 ^ 32
   undecided-fits few =
       omega (
@@ -143,28 +143,28 @@ everywhere-inside n xs is =
 
 -- 3. A formula inside.
 
-module _ (m : Model) (game : IsGame m.game) (asked : ℕ) (f : Tree) (left right : Judged)
-    (h : IsJudged m asked f.left left) (i : IsJudged m asked f.right right) (starts : List ℕ) (band : Band) (how : How)
-    (found : AreFoundBy f.kind m f (seen left.sets) (seen right.sets) starts asked band how) where
+module _ (m : Model) (game : IsGame m.game) (way : Way) (f : Tree) (left right : Judged)
+    (h : IsJudged m way f.left left) (i : IsJudged m way f.right right) (starts : List ℕ) (band : Band) (how : How)
+    (found : AreFoundBy f.kind m f (seen left.sets) (seen right.sets) starts way band how) where
   found-known : AreFoundBy f.kind m f (known m.labels f.left h.bands)
-      (known m.labels f.right i.bands) starts asked band how
+      (known m.labels f.right i.bands) starts way band how
   found-known =
       found-same m game f (seen left.sets) (seen right.sets) (known m.labels f.left h.bands)
       (known m.labels f.right i.bands) (alike-back (states m) (known m.labels f.left h.bands) (seen left.sets) h.alike)
-      (alike-back (states m) (known m.labels f.right i.bands) (seen right.sets) i.alike) starts asked
+      (alike-back (states m) (known m.labels f.right i.bands) (seen right.sets) i.alike) starts way
       band how f.kind found
 
   pub judged-inside : (result : Judged) (here : ℕ) → starts ≡ range_with_len 0 (states m)
       → length result.sets.sure.items ≡ states m → AreAlike (states m) (judgement f.bound band) (seen result.sets)
       → here ≡ undecided_at f.bound band (states m) → result.inner ≡ left.inner + right.inner + 1
-      → result.undecided ≡ here + (left.undecided + right.undecided) → IsJudged m asked (inner_of f) result
+      → result.undecided ≡ here + (left.undecided + right.undecided) → IsJudged m way (inner_of f) result
   judged-inside result here all many alike here_is inner undecided = record {
     bands = (band, h.bands, i.bands);
     found = (
       (
         how,
         subst (λ (from : List ℕ). AreFoundBy f.kind m f (known m.labels f.left h.bands)
-            (known m.labels f.right i.bands) from asked band how) all found-known,
+            (known m.labels f.right i.bands) from way band how) all found-known,
       ),
       h.found,
       i.found,
@@ -186,44 +186,59 @@ module _ (m : Model) (game : IsGame m.game) (asked : ℕ) (f : Tree) (left right
     is-truth = (truth-of m game).1
 
     left-around : IsAround m (holds m.labels truth f.left) (known m.labels f.left h.bands)
-    left-around = around m game truth is-truth asked f.left h.bands spellable.left.parts h.found
+    left-around = around m game truth is-truth way f.left h.bands spellable.left.parts h.found
 
     right-around : IsAround m (holds m.labels truth f.right) (known m.labels f.right i.bands)
-    right-around = around m game truth is-truth asked f.right i.bands spellable.right.parts i.found
+    right-around = around m game truth is-truth way f.right i.bands spellable.right.parts i.found
 
     sound-truth : AreSoundBy f.kind m f (holds m.labels truth f.left) (holds m.labels truth f.right) band
     sound-truth = sound-by m game f (holds m.labels truth f.left)
         (holds m.labels truth f.right) (known m.labels f.left h.bands)
-        (known m.labels f.right i.bands) left-around right-around starts asked band how f.kind found-known
+        (known m.labels f.right i.bands) left-around right-around starts way band how f.kind found-known
 
     right-truth : (s : ℕ) → s < states m → IsRightOf (verdict_at f.bound band s) (truth f s)
     right-truth s there =
         right-by m game f spellable.share (holds m.labels truth f.left)
         (holds m.labels truth f.right) (known m.labels f.left h.bands)
-        (known m.labels f.right i.bands) left-around right-around starts asked band how f.kind found-known
+        (known m.labels f.right i.bands) left-around right-around starts way band how f.kind found-known
         s there (truth f s) (is-truth f s there)
 
     -- where nothing inside is undecided, what is known of the sides is the truth
     exact-truth : undecided_in f.left h.bands (states m) + undecided_in f.right i.bands (states m) ≡ 0
         → AreFoundBy f.kind m f (exactly (holds m.labels truth f.left))
-        (exactly (holds m.labels truth f.right)) starts asked band how
+        (exactly (holds m.labels truth f.right)) starts way band how
     exact-truth none =
         found-same m game f (known m.labels f.left h.bands) (known m.labels f.right i.bands)
         (exactly (holds m.labels truth f.left)) (exactly (holds m.labels truth f.right))
-        (decided-truth m game truth is-truth asked f.left h.bands spellable.left.parts h.found (omega (arith, none)))
-        (decided-truth m game truth is-truth asked f.right i.bands spellable.right.parts i.found (omega (arith, none)))
-        starts asked band how f.kind found-known
+        (decided-truth m game truth is-truth way f.left h.bands spellable.left.parts h.found (omega (arith, none)))
+        (decided-truth m game truth is-truth way f.right i.bands spellable.right.parts i.found (omega (arith, none)))
+        starts way band how f.kind found-known
 
-    -- and what is undecided is left open
-    open-truth : All (λ s. s < states m) starts
-        → undecided_in f.left h.bands (states m) + undecided_in f.right i.bands (states m) ≡ 0
-        → All (λ s. verdict_at f.bound band s ≡ Undecided
-        → IsOpenBy f.kind m f (holds m.labels truth f.left) (holds m.labels truth f.right) asked band s) starts
-    open-truth inside none = all-opened m game f (small-share f.bound spellable.share) (holds m.labels truth f.left)
-        (holds m.labels truth f.right) starts asked band how inside (exact-truth none)
+    -- what rounds promise besides
+    rounds-truth : All (λ s. s < states m) starts → (undecided : ℕ)
+        → undecided ≡ undecided_in f.left h.bands (states m) + undecided_in f.right i.bands (states m) → (asked : ℕ)
+        → way ≡ ByRounds asked → RoundsPromise m f starts asked h.bands i.bands truth band undecided
+    rounds-truth inside undecided undecided_is asked is =
+        let lefts : AreFound m (ByRounds asked) f.left h.bands =
+        subst (λ (w : Way). AreFound m w f.left h.bands) is h.found in
+        let rights : AreFound m (ByRounds asked) f.right i.bands =
+        subst (λ (w : Way). AreFound m w f.right i.bands) is i.found in
+        record {
+          left_within = λ coarse c. open-within m game asked f.left h.bands coarse spellable.left.parts lefts c;
+          right_within = λ coarse c. open-within m game asked f.right i.bands coarse spellable.right.parts rights c;
+          within = λ cl cr coarse c. outermost m game asked f starts h.bands cl i.bands cr band coarse how
+              spellable.share spellable.left.parts spellable.right.parts inside lefts rights
+              (subst (λ (w : Way). AreFoundBy f.kind m f (known m.labels f.left h.bands)
+              (known m.labels f.right i.bands) starts w band how) is found-known) c;
+          left_open = λ none. all-opened m game f (small-share f.bound spellable.share) (holds m.labels truth f.left)
+              (holds m.labels truth f.right) starts asked band how inside
+              (subst (λ (w : Way). AreFoundBy f.kind m f (exactly (holds m.labels truth f.left))
+              (exactly (holds m.labels truth f.right)) starts w band how) is
+              (exact-truth (omega (arith, none, undecided_is))));
+        }
 
     pub nested-of : All (λ s. s < states m) starts → (inner undecided : ℕ) → inner ≡ left.inner + right.inner
-        → undecided ≡ left.undecided + right.undecided → IsNested m f starts asked band how inner undecided
+        → undecided ≡ left.undecided + right.undecided → IsNested m f starts way band how inner undecided
     nested-of inside inner undecided inner_is undecided_is = record {
       is_game = game;
       left = h.bands;
@@ -239,10 +254,6 @@ module _ (m : Model) (game : IsGame m.game) (asked : ℕ) (f : Tree) (left right
       right_around = right-around;
       sound = sound-truth;
       right_of = right-truth;
-      left_within = λ coarse c. open-within m game asked f.left h.bands coarse spellable.left.parts h.found c;
-      right_within = λ coarse c. open-within m game asked f.right i.bands coarse spellable.right.parts i.found c;
-      within = λ cl cr coarse c. outermost m game asked f starts h.bands cl i.bands cr band coarse how spellable.share
-          spellable.left.parts spellable.right.parts inside h.found i.found found-known c;
       exact = λ none. exact-truth (omega (arith, none, undecided_is, h.undecided_are, i.undecided_are));
-      left_open = λ none. open-truth inside (omega (arith, none, undecided_is, h.undecided_are, i.undecided_are));
+      rounds = rounds-truth inside undecided (omega (arith, undecided_is, h.undecided_are, i.undecided_are));
     }

@@ -22,9 +22,10 @@ use Rattle.verdicts.specs.declared.report.How.{How}
 use Rattle.verdicts.specs.declared.verdict.Verdict.{Verdict}
 use Rattle.verdicts.specs.declared.verdict.Verdict.TheVariants.{Yes, No, Undecided, Bracket}
 use Rattle.verdicts.specs.Verdict.{verdict_by, verdict_of, is_yes, is_no, is_undecided}
+use Rattle.formula_truth.specs.declared.way.Way.{Way}
 use Rattle.formula_truth.specs.Truth.{states, everywhere}
 use Rattle.formula_truth.specs.Bands.{Band, Bands, Known, exactly, negated, surely, possibly, verdict_at, undecided_in}
-use Rattle.formula_truth.specs.Runs.{AreRaced, AreSwept, AreFoundBy, pessimistic, optimistic, units_at}
+use Rattle.formula_truth.specs.Runs.{AreAnswered, AreSwept, AreFoundBy, pessimistic, optimistic, units_at}
 use Rattle.nested_truth.specs.Seen.{AreAlike}
 use Rattle.formula_truth.specs.Sound.{IsAround}
 use Rattle.nested_truth.proofs.Parts.{negated-alike}
@@ -126,11 +127,11 @@ everywhere-alike : (n : ℕ) → AreAlike n (exactly everywhere) (exactly everyw
 everywhere-alike n = record { sure = λ s l. refl; possible = λ s l. refl }
 
 module _ (m : Model) (game : IsGame m.game) (f : Tree) (kl kr kl' kr' : Known) (lefts : AreAlike (states m) kl kl')
-    (rights : AreAlike (states m) kr kr') (starts : List ℕ) (asked : ℕ) (band : Band) (how : How) where
-  pub found-same : (kind : PathKind) → AreFoundBy kind m f kl kr starts asked band how
-      → AreFoundBy kind m f kl' kr' starts asked band how
+    (rights : AreAlike (states m) kr kr') (starts : List ℕ) (way : Way) (band : Band) (how : How) where
+  pub found-same : (kind : PathKind) → AreFoundBy kind m f kl kr starts way band how
+      → AreFoundBy kind m f kl' kr' starts way band how
   found-same Until h =
-      both-same m f kl kr kl' kr' lefts rights (λ low high. AreRaced low high f.bound starts asked band how) h
+      both-same m f kl kr kl' kr' lefts rights (λ low high. AreAnswered low high f.bound starts way band how) h
   found-same (Within k) h =
       both-same m f kl kr kl' kr' lefts rights (λ low high. AreSwept low high (opening low) (opening high) k band how) h
   found-same Next h =
@@ -148,6 +149,6 @@ module _ (m : Model) (game : IsGame m.game) (f : Tree) (kl kr kl' kr' : Known) (
     h.0,
     both-same m (dual_of f) (exactly everywhere) (negated kr) (exactly everywhere) (negated kr')
         (everywhere-alike (states m)) (negated-alike (states m) kr kr' rights)
-        (λ low high. AreRaced low high (dual_bound f.bound) starts asked h.0 how) h.1,
+        (λ low high. AreAnswered low high (dual_bound f.bound) starts way h.0 how) h.1,
     h.2,
   )

@@ -1,7 +1,7 @@
 pub mod Tables
 pub mod Asked
 pub mod Parts
-pub mod Raced
+pub mod Ways
 pub mod Exactly
 pub mod Decided
 pub mod Opened

@@ -31,11 +31,12 @@ use Rattle.verdicts.proofs.Opening.{open-here, open-wider}
 use Rattle.verdicts.proofs.Staying.{settled-on}
 use Rattle.formula_truth.specs.Truth.{states, everywhere, question_by}
 use Rattle.formula_truth.specs.Bands.{Band, exactly, negated, verdict_at}
-use Rattle.formula_truth.specs.Runs.{AreRaced, AreSwept, AreFoundBy, mirrored, units_at}
+use Rattle.formula_truth.specs.declared.way.Way.TheVariants.{ByRounds}
+use Rattle.formula_truth.specs.Runs.{AreAnswered, AreSwept, AreFoundBy, IsRun, mirrored, units_at}
 use Rattle.nested_truth.specs.Open.{IsRunOpen, IsOpenBy}
 use Rattle.formula_truth.proofs.Posed.{is_query, is_next_query}
 use Rattle.formula_truth.proofs.Looked.{IsLookedAt, looked-start}
-use Rattle.formula_truth.proofs.Widened.{raced, next-opens, exactly-around, negated-around}
+use Rattle.formula_truth.proofs.Widened.{answered, next-opens, exactly-around, negated-around}
 use Rattle.formula_truth.proofs.Coarsely.{HasUnits, bounded-units, verdict-mirrored, complement-entry}
 
 -- 1. A run on one question, at a state where it looks.
@@ -85,25 +86,27 @@ module _ (q : Query) (zero : List Bool) (bound : Bound) (starts : List ℕ) (ask
   ]
 
 raced-open : (q : Query) (bound : Bound) (starts : List ℕ) (asked : ℕ) (band : Band) (how : How) (s : ℕ)
-    → IsQuery q → s < length q.game → IsLookedAt bound starts s → AreRaced q q bound starts asked band how
+    → IsQuery q → s < length q.game → IsLookedAt bound starts s → AreAnswered q q bound starts (ByRounds asked) band how
     → verdict_at bound band s ≡ Undecided → IsRunOpen q bound asked band s
 raced-open q bound starts asked band how s posed inside looked h undecided =
-    let found : Bracket = h.low_found in
-    let lower : band.lower ≡ found.lower.items = h.lower in
-    let upper : band.upper ≡ found.upper.items = h.upper ∙ ap (λ (b : Bracket). b.upper.items) (sym (h.one refl)) in
+    let run : IsRun q bound starts asked band.lower band.upper how =
+    subst (λ (u : List ℕ). IsRun q bound starts asked band.lower u how) (h.one refl) h.low_answer in
+    let found : Bracket = run.found in
+    let lower : band.lower ≡ found.lower.items = run.lower_is in
+    let upper : band.upper ≡ found.upper.items = run.upper_is in
     let here : verdict_of bound (slice_index found.lower.items s) (slice_index found.upper.items s) ≡ Undecided =
     subst (λ (l : List ℕ). verdict_of bound (slice_index l s) (slice_index found.upper.items s) ≡ Undecided) lower
     (subst (λ (u : List ℕ). verdict_of bound (slice_index band.lower s) (slice_index u s) ≡ Undecided) upper
     undecided) in
-    let at : IsLeftOpen q h.low_run.zero bound asked (slice_index found.lower.items) (slice_index found.upper.items) s =
-    found-open q h.low_run.zero bound starts asked found posed h.low_run.is_found s inside looked here in
+    let at : IsLeftOpen q run.zero bound asked (slice_index found.lower.items) (slice_index found.upper.items) s =
+    found-open q run.zero bound starts asked found posed run.is_found s inside looked here in
     record {
-      zero = h.low_run.zero;
-      is_zero = h.low_run.is_zero;
+      zero = run.zero;
+      is_zero = run.is_zero;
       is_open = subst (λ (l : List ℕ).
-          IsLeftOpen q h.low_run.zero bound asked (slice_index l) (slice_index band.upper) s) (sym lower)
+          IsLeftOpen q run.zero bound asked (slice_index l) (slice_index band.upper) s) (sym lower)
           (subst (λ (u : List ℕ).
-          IsLeftOpen q h.low_run.zero bound asked (slice_index found.lower.items) (slice_index u) s) (sym upper) at);
+          IsLeftOpen q run.zero bound asked (slice_index found.lower.items) (slice_index u) s) (sym upper) at);
     }
 
 -- 2. So many steps, and one.
@@ -152,7 +155,7 @@ open-same q bound asked band other s lower upper h = record {
 module _ (m : Model) (game : IsGame m.game) (f : Tree) (small : IsAtMostOne f.bound) (left right : ℕ → Bool)
     (starts : List ℕ) (asked : ℕ) (band : Band) (how : How) (s : ℕ) (inside : s < states m)
     (looked : (bound : Bound) → IsLookedAt bound starts s) where
-  always-open : AreFoundBy Always m f (exactly left) (exactly right) starts asked band how
+  always-open : AreFoundBy Always m f (exactly left) (exactly right) starts (ByRounds asked) band how
       → verdict_at f.bound band s ≡ Undecided → IsOpenBy Always m f left right asked band s
   always-open h undecided =
       let g : Tree = dual_of f in
@@ -160,8 +163,8 @@ module _ (m : Model) (game : IsGame m.game) (f : Tree) (small : IsAtMostOne f.bo
       let fails : ℕ → Bool = λ t. not (right t) in
       let q : Query = question_by m g everywhere fails in
       let fine =
-      raced m game g everywhere fails (exactly everywhere) (negated (exactly right)) (exactly-around m everywhere)
-      (negated-around m right (exactly right) (exactly-around m right)) bound starts asked h.0 how h.1 in
+      answered m game g everywhere fails (exactly everywhere) (negated (exactly right)) (exactly-around m everywhere)
+      (negated-around m right (exactly right) (exactly-around m right)) bound starts (ByRounds asked) h.0 how h.1 in
       let units : HasUnits h.0 s = bounded-units m g everywhere fails h.0 fine s inside in
       let here : verdict_at bound h.0 s ≡ Undecided = sym (verdict-mirrored f.bound h.0 s small units)
       ∙ ap (λ (b : Band). verdict_at f.bound b s) (sym h.2) ∙ undecided in
@@ -171,7 +174,7 @@ module _ (m : Model) (game : IsGame m.game) (f : Tree) (small : IsAtMostOne f.bo
       (open-same q bound asked h.0 (mirrored (mirrored h.0)) s (twice-complement h.0.lower s units.lowers units.lower)
       (twice-complement h.0.upper s units.uppers units.upper) at)
 
-  pub opened : (kind : PathKind) → AreFoundBy kind m f (exactly left) (exactly right) starts asked band how
+  pub opened : (kind : PathKind) → AreFoundBy kind m f (exactly left) (exactly right) starts (ByRounds asked) band how
       → verdict_at f.bound band s ≡ Undecided → IsOpenBy kind m f left right asked band s
   opened Until h undecided = raced-open (question_by m f left right) f.bound starts asked band how s
       (is_query m f left right game) inside (looked f.bound) h undecided
@@ -193,7 +196,8 @@ module _ (m : Model) (game : IsGame m.game) (f : Tree) (small : IsAtMostOne f.bo
 -- at each of the states where the run looks
 pub all-opened : (m : Model) → IsGame m.game → (f : Tree) → IsAtMostOne f.bound
     → (left right : ℕ → Bool) (starts : List ℕ) (asked : ℕ) (band : Band) (how : How)
-    → All (λ s. s < states m) starts → AreFoundBy f.kind m f (exactly left) (exactly right) starts asked band how
+    → All (λ s. s < states m) starts
+    → AreFoundBy f.kind m f (exactly left) (exactly right) starts (ByRounds asked) band how
     → All (λ s. verdict_at f.bound band s ≡ Undecided → IsOpenBy f.kind m f left right asked band s) starts
 all-opened m game f small left right starts asked band how inside h =
     λ k d there undecided. opened m game f small left right starts asked band how (get_or starts k d) (inside k d there)

@@ -5,6 +5,7 @@ use Rattle.formula_reader.specs.Formula.{State, True, False, And, Or, Implies}
 use Rattle.nested_truth.specs.declared.judging.Judged.{Judged}
 use Rattle.nested_truth.specs.declared.known.KnownSets.{KnownSets}
 use Rattle.formula_sets.specs.Posing.{Model}
+use Rattle.formula_truth.specs.declared.way.Way.{Way}
 use Rattle.formula_truth.specs.Truth.{states}
 use Rattle.formula_truth.specs.Bands.{Known, known, exactly, negated, both, either}
 use Rattle.nested_truth.specs.Seen.{AreAlike, IsJudged, seen}
@@ -37,10 +38,10 @@ either-alike n one other third fourth h i = record {
 
 -- 2. Formulas without parts.
 
-pub judged-same : (m : Model) (asked : ℕ) (holds : Bool) (n : ℕ) (sets : KnownSets) → n ≡ states m
+pub judged-same : (m : Model) (way : Way) (holds : Bool) (n : ℕ) (sets : KnownSets) → n ≡ states m
     → length sets.sure.items ≡ n → AreAlike n (exactly (λ s. holds)) (seen sets)
-    → IsJudged m asked (if holds then True else False) (record { sets = sets; inner = 0; undecided = 0 })
-judged-same m asked true n sets is many alike = record {
+    → IsJudged m way (if holds then True else False) (record { sets = sets; inner = 0; undecided = 0 })
+judged-same m way true n sets is many alike = record {
   bands = tt;
   found = tt;
   many = many ∙ is;
@@ -48,7 +49,7 @@ judged-same m asked true n sets is many alike = record {
   inner_are = refl;
   undecided_are = refl;
 }
-judged-same m asked false n sets is many alike = record {
+judged-same m way false n sets is many alike = record {
   bands = tt;
   found = tt;
   many = many ∙ is;
@@ -59,13 +60,13 @@ judged-same m asked false n sets is many alike = record {
 
 -- 3. Formulas with parts.
 
-module _ (m : Model) (asked : ℕ) where
-  module _ (x y : State) (one other result : Judged) (h : IsJudged m asked x one) (i : IsJudged m asked y other)
+module _ (m : Model) (way : Way) where
+  module _ (x y : State) (one other result : Judged) (h : IsJudged m way x one) (i : IsJudged m way y other)
       (many : length result.sets.sure.items ≡ length one.sets.sure.items)
       (inner : result.inner ≡ one.inner + other.inner)
       (undecided : result.undecided ≡ one.undecided + other.undecided) where
     pub judged-and : AreAlike (length one.sets.sure.items) (both (seen one.sets) (seen other.sets)) (seen result.sets)
-        → IsJudged m asked (And x y) result
+        → IsJudged m way (And x y) result
     judged-and alike = record {
       bands = (h.bands, i.bands);
       found = (h.found, i.found);
@@ -80,7 +81,7 @@ module _ (m : Model) (asked : ℕ) where
     }
 
     pub judged-or : AreAlike (length one.sets.sure.items) (either (seen one.sets) (seen other.sets)) (seen result.sets)
-        → IsJudged m asked (Or x y) result
+        → IsJudged m way (Or x y) result
     judged-or alike = record {
       bands = (h.bands, i.bands);
       found = (h.found, i.found);
@@ -97,7 +98,7 @@ module _ (m : Model) (asked : ℕ) where
     pub judged-implies : (sets : KnownSets) → length sets.sure.items ≡ length one.sets.sure.items
         → AreAlike (length one.sets.sure.items) (negated (seen one.sets)) (seen sets)
         → AreAlike (length sets.sure.items) (either (seen sets) (seen other.sets)) (seen result.sets)
-        → IsJudged m asked (Implies x y) result
+        → IsJudged m way (Implies x y) result
     judged-implies sets same first alike = record {
       bands = (h.bands, i.bands);
       found = (h.found, i.found);

@@ -9,6 +9,7 @@ use Rattle.nested_truth.specs.declared.judging.Judged.{Judged}
 use Rattle.nested_truth.specs.declared.known.KnownSets.{KnownSets}
 use Rattle.nested_truth.specs.declared.setting.Setting.{Setting}
 use Rattle.formula_sets.specs.Posing.{Model}
+use Rattle.formula_truth.specs.declared.way.Way.{Way}
 use Rattle.formula_truth.specs.Truth.{states}
 use Rattle.formula_truth.specs.Bands.{Band, Bands, Known, known, undecided_in}
 use Rattle.formula_truth.specs.Runs.{AreFound}
@@ -50,9 +51,9 @@ pub record IsBand (n : ℕ) (band : Band) : Type 0 where
   pub upper_units : All (λ v. v ≤ unit) band.upper
 
 -- what is known of a state formula, from bounds of the formulas inside
-pub record IsJudged (m : Model) (asked : ℕ) (x : State) (judged : Judged) : Type 0 where
+pub record IsJudged (m : Model) (way : Way) (x : State) (judged : Judged) : Type 0 where
   pub bands : Bands x
-  pub found : AreFound m asked x bands
+  pub found : AreFound m way x bands
   pub many : length judged.sets.sure.items ≡ states m
   pub alike : AreAlike (states m) (known m.labels x bands) (seen judged.sets)
   pub inner_are : judged.inner ≡ formulas_in x

@@ -13,7 +13,7 @@ pub struct Nested {
     /// The upper bounds: those of the question that the possible states of both sides pose. Of `G` 1 less the lower
     /// ones of the dual.
     pub upper: Vec<u64>,
-    /// How many rounds or steps the lower bounds come from; of `G` those of the dual.
+    /// Where the lower bounds come from: how many rounds or steps, or a solver. Of `G` those of the dual.
     pub how: How,
     /// How many formulas stand inside, at any depth.
     pub inner: u32,

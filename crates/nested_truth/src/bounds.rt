@@ -1,4 +1,4 @@
-//! Bounds that runs find.
+//! Bounds that are found.
 
 ghost use Rattle.std.specs.Prelude.{◌≡◌, IfOk};
 ghost use Rattle.bracket_engine.specs.Bracket.{complements_of};
@@ -8,8 +8,8 @@ use game_outside::OutOfMemory;
 use std::alloc::{AllocError, Global};
 use verdicts::How;
 
-/// A lower and an upper bound for each state, in units, and how many rounds or steps the lower ones come from; where
-/// they are mirrored, the upper ones.
+/// A lower and an upper bound for each state, in units, and where the lower ones come from; where they are mirrored,
+/// the upper ones.
 #[derive(Drop)]
 pub struct Bounds {
     pub lower: Vec<u64>,

@@ -24,11 +24,12 @@ impl Judged {
     ghost use Rattle.std.specs.Prelude.{ℕ, ◌+◌, ◌<◌, ◌^◌};
     ghost use Rattle.formula_reader.specs.Formula.{State, Not, And, Or, Implies};
     ghost use Rattle.formula_sets.specs.Posing.{Model};
+    ghost use Rattle.formula_truth.specs.declared.way.Way.{Way};
     ghost use Rattle.nested_truth.specs.Seen.{IsJudged};
 
     /// What is known of `!x`.
     pub fn negated(self) -> Judged
-        ensures { (m : Model) (asked : ℕ) (x : State) → IsJudged m asked x self → IsJudged m asked (Not x) result }
+        ensures { (m : Model) (way : Way) (x : State) → IsJudged m way x self → IsJudged m way (Not x) result }
     {
         Judged {
             sets: self.sets.negated(),
@@ -42,8 +43,8 @@ impl Judged {
         requires states { length other.sets.sure.items ≡ length self.sets.sure.items }
         requires inner { self.inner + other.inner < 2 ^ 32 }
         requires undecided { self.undecided + other.undecided < 2 ^ 32 }
-        ensures { (m : Model) (asked : ℕ) (x y : State) → IsJudged m asked x self → IsJudged m asked y other
-            → IsJudged m asked (And x y) result }
+        ensures { (m : Model) (way : Way) (x y : State) → IsJudged m way x self → IsJudged m way y other
+            → IsJudged m way (And x y) result }
     {
         Judged {
             sets: self.sets.both(&other.sets),
@@ -57,8 +58,8 @@ impl Judged {
         requires states { length other.sets.sure.items ≡ length self.sets.sure.items }
         requires inner { self.inner + other.inner < 2 ^ 32 }
         requires undecided { self.undecided + other.undecided < 2 ^ 32 }
-        ensures { (m : Model) (asked : ℕ) (x y : State) → IsJudged m asked x self → IsJudged m asked y other
-            → IsJudged m asked (Or x y) result }
+        ensures { (m : Model) (way : Way) (x y : State) → IsJudged m way x self → IsJudged m way y other
+            → IsJudged m way (Or x y) result }
     {
         Judged {
             sets: self.sets.either(&other.sets),
@@ -72,8 +73,8 @@ impl Judged {
         requires states { length other.sets.sure.items ≡ length self.sets.sure.items }
         requires inner { self.inner + other.inner < 2 ^ 32 }
         requires undecided { self.undecided + other.undecided < 2 ^ 32 }
-        ensures { (m : Model) (asked : ℕ) (x y : State) → IsJudged m asked x self → IsJudged m asked y other
-            → IsJudged m asked (Implies x y) result }
+        ensures { (m : Model) (way : Way) (x y : State) → IsJudged m way x self → IsJudged m way y other
+            → IsJudged m way (Implies x y) result }
     {
         Judged {
             sets: self.sets.negated().either(&other.sets),

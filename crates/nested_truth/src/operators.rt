@@ -7,10 +7,10 @@ ghost use Rattle.formula_truth.specs.Bands.{Known};
 ghost use Rattle.formula_truth.specs.Runs.{AreFoundBy};
 ghost use Rattle.nested_truth.specs.Seen.{IsBand, band_in, model_of, seen};
 
+use crate::answering::answer_both;
 use crate::bounds::Bounds;
 use crate::known::KnownSets;
 use crate::questions::Questions;
-use crate::races::race;
 use crate::setting::Setting;
 use crate::sweeps::{next_sweep, sweep};
 use formula_reader::{Formula, PathKind};
@@ -19,8 +19,8 @@ use rpatl_syntax::dual;
 use std::alloc::Global;
 use std::thread::Threads;
 
-/// The bounds of a formula, from what is known of its sides. A run ends where the threshold is settled at all of the
-/// states from which it starts.
+/// The bounds of a formula, from what is known of its sides. A run of rounds ends where the threshold is settled at all
+/// of the states from which it starts.
 pub fn bounds_of<R: Threads + Sync, G: Gate + Sync>(
     rt: &R,
     alloc: Global,
@@ -37,7 +37,7 @@ pub fn bounds_of<R: Threads + Sync, G: Gate + Sync>(
     requires right { length right.sure.items ≡ length setting.game.now }
     requires starts { All (λ s. s < length setting.game.now) starts.now }
     ensures found { IfOk result (λ bounds. AreFoundBy formula.now.kind (model_of setting.entry) (tree_of formula.now)
-        (seen left.now) (seen right) starts.now setting.entry.rounds (band_in bounds) bounds.how) }
+        (seen left.now) (seen right) starts.now setting.entry.way (band_in bounds) bounds.how) }
     ensures band { IfOk result (λ bounds. IsBand (length setting.entry.game.now) (band_in bounds)) }
 {
     match formula.kind {
@@ -66,11 +66,11 @@ fn reached<R: Threads + Sync, G: Gate + Sync>(
     requires right { length right.now.sure.items ≡ length setting.game.now }
     requires starts { All (λ s. s < length setting.game.now) starts.now }
     ensures found { IfOk result (λ bounds. AreFoundBy PathKind.Until (model_of setting.entry) (tree_of formula.now)
-        (seen left.now) (seen right.now) starts.now setting.entry.rounds (band_in bounds) bounds.how) }
+        (seen left.now) (seen right.now) starts.now setting.entry.way (band_in bounds) bounds.how) }
     ensures band { IfOk result (λ bounds. IsBand (length setting.entry.game.now) (band_in bounds)) }
 {
     let questions = Questions::of_formula(alloc, setting, formula, left, right)?;
-    race(rt, alloc, setting, &questions, formula.bound, starts, gate)
+    answer_both(rt, alloc, setting, &questions, formula.bound, starts, gate)
 }
 
 // The bounds of a formula with `G`: 1 less those of its dual.
@@ -88,7 +88,7 @@ fn always<R: Threads + Sync, G: Gate + Sync>(
     requires right { length right.sure.items ≡ length setting.game.now }
     requires starts { All (λ s. s < length setting.game.now) starts.now }
     ensures found { IfOk result (λ bounds. (left : Known) → AreFoundBy PathKind.Always (model_of setting.entry)
-        (tree_of formula.now) left (seen right) starts.now setting.entry.rounds (band_in bounds) bounds.how) }
+        (tree_of formula.now) left (seen right) starts.now setting.entry.way (band_in bounds) bounds.how) }
     ensures band { IfOk result (λ bounds. IsBand (length setting.entry.game.now) (band_in bounds)) }
 {
     let dual = dual(alloc, formula)?;

@@ -10,6 +10,7 @@ ghost use Rattle.game_outside.specs.Answers.{AnswersOrWants};
 ghost use Rattle.formula_sets.specs.Posing.{initial_said, IsOutOfMemory};
 ghost use Rattle.bracket_engine.specs.Limits.{most_rounds};
 ghost use Rattle.bounded_rounds.specs.Limits.{most_workers};
+ghost use Rattle.formula_truth.specs.Runs.{rounds_of};
 ghost use Rattle.nested_truth.specs.Nested.{IsNested};
 ghost use Rattle.nested_truth.specs.Seen.{IsBand, band_of, model_of};
 
@@ -19,6 +20,7 @@ use crate::setting::Setting;
 use crate::states::judge;
 use formula_reader::Formula;
 use formula_sets::{PoseFault, initial_of};
+use formula_truth::Way;
 use game_model::Game;
 use game_outside::{Gate, OutOfMemory};
 use label_reader::{Labels, Owners};
@@ -26,9 +28,9 @@ use predecessors::Predecessors;
 use std::alloc::{AllocError, Global};
 use std::thread::Threads;
 
-/// The bounds of a formula about a game whose states have these labels and owners, after at most so many rounds of each
-/// run, or the first reason why it poses no question. A run ends early where its threshold is settled: that of a
-/// formula inside at every state, that of the outermost formula at the initial states.
+/// The bounds of a formula about a game whose states have these labels and owners, or the first reason why it poses no
+/// question. Questions without a bound on the steps are answered in this way. A run of rounds ends early where its
+/// threshold is settled: that of a formula inside at every state, that of the outermost formula at the initial states.
 pub fn nested<R: Threads + Sync, G: Gate + Sync>(
     rt: &R,
     alloc: Global,
@@ -36,7 +38,7 @@ pub fn nested<R: Threads + Sync, G: Gate + Sync>(
     labels: &Labels,
     owners: &Owners,
     formula: &Formula,
-    rounds: u32,
+    way: Way,
     workers: u32,
     gate: &G,
 ) -> Result<Nested, PoseFault>
@@ -44,12 +46,12 @@ pub fn nested<R: Threads + Sync, G: Gate + Sync>(
     requires owners { length owners.now.owners ≡ length game.now }
     requires spellable { IsSpellable (tree_of formula.now) }
     requires few { formulas_inside (tree_of formula.now) ≤ longest }
-    requires rounds { rounds ≤ most_rounds }
+    requires rounds { rounds_of way ≤ most_rounds }
     requires workers { (1 ≤ workers) × (workers ≤ most_workers) }
     ensures posed { AnswersOrWants IsOutOfMemory (λ nested. nested.initial.items) result
         (initial_said labels.now owners.now (tree_of formula.now)) }
     ensures nested { IfOk result (λ nested. IsNested (record
-        { game = game.now; labels = labels.now; owners = owners.now }) (tree_of formula.now) nested.initial.items rounds
+        { game = game.now; labels = labels.now; owners = owners.now }) (tree_of formula.now) nested.initial.items way
         (band_of nested) nested.how nested.inner nested.undecided) }
     ensures inside { IfOk result (λ nested. All (λ s. s < length game.now) nested.initial.items) }
     ensures many { IfOk result (λ nested. (length nested.lower.items ≡ length game.now)
@@ -60,7 +62,7 @@ pub fn nested<R: Threads + Sync, G: Gate + Sync>(
     labels.known();
     let initial = initial_of(alloc, labels, owners, formula)?;
     match answer(
-        rt, alloc, game, labels, owners, formula, rounds, workers, initial, gate,
+        rt, alloc, game, labels, owners, formula, way, workers, initial, gate,
     ) {
         Ok(nested) => Ok(nested),
         Err(_) => Err(PoseFault::OutOfMemory),
@@ -75,7 +77,7 @@ fn answer<R: Threads + Sync, G: Gate + Sync>(
     labels: &Labels,
     owners: &Owners,
     formula: &Formula,
-    rounds: u32,
+    way: Way,
     workers: u32,
     initial: Vec<u32>,
     gate: &G,
@@ -84,12 +86,12 @@ fn answer<R: Threads + Sync, G: Gate + Sync>(
     requires owners { length owners.now.owners ≡ length game.now }
     requires spellable { IsSpellable (tree_of formula.now) }
     requires few { formulas_inside (tree_of formula.now) ≤ longest }
-    requires rounds { rounds ≤ most_rounds }
+    requires rounds { rounds_of way ≤ most_rounds }
     requires workers { (1 ≤ workers) × (workers ≤ most_workers) }
     requires initial { All (λ s. s < length game.now) initial.items }
     ensures initial { IfOk result (λ nested. nested.initial.items ≡ initial.items) }
     ensures nested { IfOk result (λ nested. IsNested (record
-        { game = game.now; labels = labels.now; owners = owners.now }) (tree_of formula.now) initial.items rounds
+        { game = game.now; labels = labels.now; owners = owners.now }) (tree_of formula.now) initial.items way
         (band_of nested) nested.how nested.inner nested.undecided) }
     ensures band { IfOk result (λ nested. IsBand (length game.now) (band_of nested)) }
 {
@@ -102,7 +104,7 @@ fn answer<R: Threads + Sync, G: Gate + Sync>(
         owners,
         predecessors: &predecessors,
         everywhere: &everywhere,
-        rounds,
+        way,
         workers,
     };
     answer_in(rt, alloc, setting, formula, initial, gate)
@@ -122,7 +124,7 @@ fn answer_in<R: Threads + Sync, G: Gate + Sync>(
     requires initial { All (λ s. s < length setting.game.now) initial.items }
     ensures initial { IfOk result (λ nested. nested.initial.items ≡ initial.items) }
     ensures nested { IfOk result (λ nested. IsNested (model_of setting.entry)
-        (tree_of formula.now) initial.items setting.entry.rounds
+        (tree_of formula.now) initial.items setting.entry.way
         (band_of nested) nested.how nested.inner nested.undecided) }
     ensures band { IfOk result (λ nested. IsBand (length setting.entry.game.now) (band_of nested)) }
 {

@@ -6,7 +6,9 @@ ghost use Rattle.game_model.specs.Game.{IsGame};
 ghost use Rattle.predecessors.specs.Lists.{ArePredecessors};
 ghost use Rattle.bracket_engine.specs.Limits.{most_rounds};
 ghost use Rattle.bounded_rounds.specs.Limits.{most_workers};
+ghost use Rattle.formula_truth.specs.Runs.{rounds_of};
 
+use formula_truth::Way;
 use game_model::Game;
 use label_reader::{Labels, Owners};
 use predecessors::Predecessors;
@@ -21,8 +23,8 @@ pub struct Setting<'a> {
     pub predecessors: &'a Predecessors,
     /// Every state, rising.
     pub everywhere: &'a [u32],
-    /// The most rounds of a run.
-    pub rounds: u32,
+    /// How questions without a bound on the steps are answered.
+    pub way: Way,
     /// The most workers of a round or a step.
     pub workers: u32,
     ghost is_game: { IsGame game.now },
@@ -30,7 +32,7 @@ pub struct Setting<'a> {
     ghost labelled: { labels.now.states ≡ length game.now },
     ghost owned: { length owners.now.owners ≡ length game.now },
     ghost starts: { everywhere.now ≡ range_with_len 0 (length game.now) },
-    ghost few: { rounds ≤ most_rounds },
+    ghost few: { rounds_of way ≤ most_rounds },
     ghost some_workers: { 1 ≤ workers },
     ghost few_workers: { workers ≤ most_workers },
 }

@@ -26,7 +26,7 @@ pub fn judge<R: Threads + Sync, G: Gate + Sync>(
 ) -> Result<Judged, OutOfMemory>
     requires few { formulas_in (state_of formula.now) ≤ longest }
     requires parts { HasParts (state_of formula.now) }
-    ensures { IfOk result (IsJudged (model_of setting.entry) setting.entry.rounds (state_of formula.now)) }
+    ensures { IfOk result (IsJudged (model_of setting.entry) setting.entry.way (state_of formula.now)) }
 {
     match formula {
         StateFormula::True => same_at_all(alloc, setting, true),
@@ -63,7 +63,7 @@ fn judge_inside<R: Threads + Sync, G: Gate + Sync>(
 ) -> Result<Judged, OutOfMemory>
     requires few { formulas_in (inner_of (tree_of formula.now)) ≤ longest }
     requires parts { HasParts (inner_of (tree_of formula.now)) }
-    ensures { IfOk result (IsJudged (model_of setting.entry) setting.entry.rounds (inner_of (tree_of formula.now))) }
+    ensures { IfOk result (IsJudged (model_of setting.entry) setting.entry.way (inner_of (tree_of formula.now))) }
 {
     let left = judge(rt, alloc, setting, &formula.left, gate)?;
     let right = judge(rt, alloc, setting, &formula.right, gate)?;
@@ -83,7 +83,7 @@ fn judge_inside<R: Threads + Sync, G: Gate + Sync>(
 
 // `true` and `false`: known at every state.
 fn same_at_all(alloc: Global, setting: Setting<'_>, holds: bool) -> Result<Judged, OutOfMemory>
-    ensures { IfOk result (IsJudged (model_of setting.entry) setting.entry.rounds (if holds then True else False)) }
+    ensures { IfOk result (IsJudged (model_of setting.entry) setting.entry.way (if holds then True else False)) }
 {
     Ok(Judged {
         sets: KnownSets::same_at_all(alloc, holds, setting.game.states())?,
@@ -94,7 +94,7 @@ fn same_at_all(alloc: Global, setting: Setting<'_>, holds: bool) -> Result<Judge
 
 // A label: known at every state.
 fn labelled(alloc: Global, setting: Setting<'_>, name: &Name) -> Result<Judged, OutOfMemory>
-    ensures { IfOk result (IsJudged (model_of setting.entry) setting.entry.rounds (Label name.now)) }
+    ensures { IfOk result (IsJudged (model_of setting.entry) setting.entry.way (Label name.now)) }
 {
     let states = setting.game.states();
     Ok(Judged {

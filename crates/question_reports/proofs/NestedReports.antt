@@ -7,6 +7,7 @@ use Rattle.game_model.specs.Game.{IsGame}
 use Rattle.game_model.specs.Limits.{unit}
 use Rattle.formula_reader.specs.Formula.{Tree}
 use Rattle.formula_sets.specs.Posing.{Model}
+use Rattle.formula_truth.specs.declared.way.Way.{Way}
 use Rattle.nested_truth.specs.declared.answer.Nested.{Nested}
 use Rattle.nested_truth.specs.Nested.{IsNested}
 use Rattle.nested_truth.specs.Seen.{band_of}
@@ -30,7 +31,7 @@ pub record IsPrinted (m : Model) (found : Nested) : Type 0 where
   pub lower_units : All (λ v. v ≤ unit) found.lower.items
   pub upper_units : All (λ v. v ≤ unit) found.upper.items
 
-module _ (m : Model) (f : Tree) (asked : ℕ) (found : Nested) (h : IsPrinted m found) where
+module _ (m : Model) (f : Tree) (way : Way) (found : Nested) (h : IsPrinted m found) where
   abbrev line : ℕ → ReportLine
   line = line_of false f.bound found.how found.lower.items found.upper.items
 
@@ -45,12 +46,12 @@ module _ (m : Model) (f : Tree) (asked : ℕ) (found : Nested) (h : IsPrinted m 
   }
 
   reported : (initial : List ℕ) (text : List ℕ) (status : Status)
-      → IsNested m f found.initial.items asked (band_of found) found.how found.inner found.undecided
+      → IsNested m f found.initial.items way (band_of found) found.how found.inner found.undecided
       → found.initial.items ≡ initial
       → text ≡ inside_text found.inner found.undecided ++ report (map line found.initial.items)
-      → status ≡ status_of (map line found.initial.items) → IsNestedReport m initial f asked text status
+      → status ≡ status_of (map line found.initial.items) → IsNestedReport m initial f way text status
   reported initial text status nested same written ended =
-      subst (λ (xs : List ℕ). IsNestedReport m xs f asked text status) same (record {
+      subst (λ (xs : List ℕ). IsNestedReport m xs f way text status) same (record {
         inside = h.inside;
         band = band_of found;
         how = found.how;
@@ -66,11 +67,11 @@ module _ (m : Model) (f : Tree) (asked : ℕ) (found : Nested) (h : IsPrinted m 
 
   -- the same of an answer
   pub answered-nested : (initial : List ℕ) (result : Result Answer OutOfMemory)
-      → IsNested m f found.initial.items asked (band_of found) found.how found.inner found.undecided
+      → IsNested m f found.initial.items way (band_of found) found.how found.inner found.undecided
       → found.initial.items ≡ initial → IfOk result
       (λ answer. answer.text.items ≡ inside_text found.inner found.undecided ++ report (map line found.initial.items))
       → IfOk result (λ answer. answer.status ≡ status_of (map line found.initial.items))
-      → IfOk result (λ answer. IsNestedReport m initial f asked answer.text.items answer.status)
+      → IfOk result (λ answer. IsNestedReport m initial f way answer.text.items answer.status)
   answered-nested initial (Ok answer) nested same written ended =
       reported initial answer.text.items answer.status nested same written ended
   answered-nested initial (Err error) nested same written ended = tt

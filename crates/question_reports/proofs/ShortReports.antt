@@ -16,6 +16,7 @@ use Rattle.verdicts.specs.declared.report.How.TheVariants.{Rounds, Steps, Solved
 use Rattle.verdicts.specs.declared.report.How.{How}
 use Rattle.verdicts.specs.Report.{IsLine}
 use Rattle.formula_sets.specs.Posing.{Model}
+use Rattle.formula_truth.specs.declared.way.Way.{Way}
 use Rattle.command_words.specs.Words.{Check}
 use Rattle.run_answers.specs.declared.status.Status.{Status}
 use Rattle.run_answers.specs.Outputs.{certificate_part, output_text, AreEntriesInLimits, IsInLimits}
@@ -98,9 +99,9 @@ inside-short inner undecided one other =
     (joined-short 21 1 (codes " undecided " ++ decimal undecided) (codes "\n") (joined-short 11 10 (codes " undecided ")
     (decimal undecided) (omega arith) (decimal-short undecided (omega (arith, other)))) (omega arith))
 
-pub nested-text-short : (m : Model) (initial : List ℕ) (f : Tree) (asked : ℕ) (text : List ℕ) (status : Status)
-    → length initial ≤ most_states → IsNestedReport m initial f asked text status → length text ≤ most_bytes
-nested-text-short m initial f asked text status few r =
+pub nested-text-short : (m : Model) (initial : List ℕ) (f : Tree) (way : Way) (text : List ℕ) (status : Status)
+    → length initial ≤ most_states → IsNestedReport m initial f way text status → length text ≤ most_bytes
+nested-text-short m initial f way text status few r =
     let lines = map (line_of false f.bound r.how r.band.lower r.band.upper) initial in
     omega (
       arith,

@@ -4,6 +4,7 @@ use Rattle.formula_reader.specs.Formula.{Tree, formulas_inside, tree_of}
 use Rattle.formula_tokens.specs.Limits.{longest}
 use Rattle.rpatl_syntax.specs.Spellable.{IsSpellable}
 use Rattle.formula_sets.specs.Posing.{Model, initial_said}
+use Rattle.formula_truth.specs.declared.way.Way.{Way}
 use Rattle.formula_truth.specs.Bands.{Band}
 use Rattle.nested_truth.specs.Nested.{IsNested}
 use Rattle.run_refusals.specs.Refusals.{numbered}
@@ -22,7 +23,7 @@ inside_text inner undecided = numbered (codes "inner ") inner
 
 -- The text and the status are the answer: the line about the formulas inside, and a report of bounds that are sound for
 -- the exact question. True is true and False is false. The bounds of a `G` are mirrored already.
-pub record IsNestedReport (m : Model) (initial : List ℕ) (f : Tree) (asked : ℕ) (text : List ℕ)
+pub record IsNestedReport (m : Model) (initial : List ℕ) (f : Tree) (way : Way) (text : List ℕ)
     (status : Status) : Type 0 where
   pub inside : All (λ s. s < length m.game) initial
   pub band : Band
@@ -30,7 +31,7 @@ pub record IsNestedReport (m : Model) (initial : List ℕ) (f : Tree) (asked : �
   -- how many formulas stand inside, and how many pairs of one and a state are left undecided
   pub inner : ℕ
   pub undecided : ℕ
-  pub nested : IsNested m f initial asked band how inner undecided
+  pub nested : IsNested m f initial way band how inner undecided
   pub written : text ≡ inside_text inner undecided
       ++ report (map (line_of false f.bound how band.lower band.upper) initial)
   pub lines : All IsLine (map (line_of false f.bound how band.lower band.upper) initial)

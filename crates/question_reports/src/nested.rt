@@ -5,13 +5,15 @@ ghost use Rattle.std.specs.String.{string_bytes};
 ghost use Rattle.formula_reader.specs.Formula.{tree_of};
 ghost use Rattle.game_model.specs.Limits.{unit};
 ghost use Rattle.verdicts.specs.Report.{HasCount, report};
-ghost use Rattle.command_words.specs.Words.{AreInRange, check_of};
+ghost use Rattle.bracket_engine.specs.Limits.{most_rounds};
+ghost use Rattle.bounded_rounds.specs.Limits.{most_workers};
+ghost use Rattle.formula_truth.specs.Runs.{rounds_of};
 ghost use Rattle.question_reports.specs.Nested.{IsAnswerable, IsNestedReport, inside_text};
 ghost use Rattle.run_answers.specs.Printed.{line_of, status_of};
 ghost use Rattle.run_answers.specs.Status.{IsAnswer};
 
 use asked_files::Loaded;
-use command_words::CheckWords;
+use formula_truth::Way;
 use game_outside::{Gate, OutOfMemory};
 use nested_truth::{Nested, nested};
 use plan_text::append;
@@ -21,20 +23,23 @@ use std::thread::Threads;
 use verdicts::How;
 
 /// A line that says how many formulas stand inside and how many pairs of one and a state are left undecided, and a line
-/// for each of these initial states. The only error is want of memory.
+/// for each of these initial states. Questions without a bound on the steps are answered in this way. The only error is
+/// want of memory.
 pub fn nested_report<R: Threads + Sync, G: Gate + Sync>(
     rt: &R,
     alloc: Global,
     loaded: &Loaded,
     initial: &[u32],
-    check: &CheckWords<'_>,
+    way: Way,
+    workers: u32,
     gate: &G,
 ) -> Result<Answer, OutOfMemory>
-    requires in_range { AreInRange (check_of check.now) }
+    requires rounds { rounds_of way ≤ most_rounds }
+    requires workers { (1 ≤ workers) × (workers ≤ most_workers) }
     requires answerable { IsAnswerable loaded.now initial.now }
     ensures report { IfOk result (λ answer. IsNestedReport (record
         { game = loaded.now.game; labels = loaded.now.labels; owners = loaded.now.owners }) initial.now
-        (tree_of loaded.now.formula) (check_of check.now).rounds answer.text.items answer.status) }
+        (tree_of loaded.now.formula) way answer.text.items answer.status) }
     ensures answer { IfOk result (λ answer. IsAnswer answer.status) }
 {
     let Ok(found) = nested(
@@ -44,8 +49,8 @@ pub fn nested_report<R: Threads + Sync, G: Gate + Sync>(
         &loaded.labels,
         &loaded.owners,
         &loaded.formula,
-        check.rounds,
-        check.workers,
+        way,
+        workers,
         gate,
     ) else {
         return Err(OutOfMemory {});

@@ -8,18 +8,15 @@ ghost use Rattle.run_answers.specs.Status.{IsAnswer};
 ghost use Rattle.question_reports.specs.Solved.{IsSolved};
 
 use crate::reports::{Formulas, make_answer};
-use almost_sure::almost_sure_over;
 use formula_reader::Formula;
 use formula_sets::Posed;
 use game_outside::OutOfMemory;
-use plan_solver::find_bounds;
 use predecessors::Predecessors;
 use run_answers::Answer;
-use solved_plans::hand_out;
+use solved_questions::solve_question;
 use std::alloc::Global;
 use verdicts::How;
 use verdicts::laws::{mirrored_verdicts_are_those_of_the_dual, undecided_thresholds_are_left_open};
-use zero_sets::zero_set_over;
 
 /// One line for each initial state, with the bounds of a plan that passes an audit and is sound, and what they say of
 /// the formula's bound; and behind them the certificate, where it is asked for. The question is that of the answered
@@ -43,10 +40,7 @@ pub fn solved_report(
     let question = &posed.question;
     let initial: &[u32] = &posed.initial;
     let predecessors = Predecessors::of_game(alloc, question.game())?;
-    let zero = zero_set_over(alloc, question, &predecessors)?;
-    let sure = almost_sure_over(alloc, question, &predecessors, &zero)?;
-    let candidates = find_bounds(alloc, question, &predecessors, &sure, &zero, hints)?;
-    let plan = hand_out(alloc, question, &predecessors, &sure, &zero, &candidates)?;
+    let plan = solve_question(alloc, question, &predecessors, hints)?;
     // What a question keeps, and two laws: these calls do nothing.
     question.known();
     undecided_thresholds_are_left_open();

@@ -24,7 +24,7 @@ use Rattle.asked_files.specs.Questions.{LacksText, LacksValues, PosesIt, Reads, 
 use Rattle.asked_files.specs.Questions.{RefusesQuestion, RefusesValues}
 use Rattle.run_answers.specs.declared.answer.Answer.{Answer}
 use Rattle.run_answers.specs.Status.{IsAnswer}
-use Rattle.stogame_app.specs.Commands.{IsMissing, ReadsFiles, RefusesIt, check_paths}
+use Rattle.stogame_app.specs.Commands.{IsMissing, ReadsFiles, RefusesIt, check_paths, solve_paths}
 use Rattle.stogame_app.specs.Reports.{IsReportOfWords}
 use Rattle.stogame_app.specs.inside.Answers.{IsAnswered, IsMadeOf}
 
@@ -84,11 +84,11 @@ lacks_certificate (Some held) audit problem poses none =
 
 -- or values to begin with are not held
 lacks_hints : (holding : Option Holding) (solve : Solve) (problem : Problem)
-    → PosesIt holding solve.asked Unbounded problem → LacksValues holding solve.values
+    → PosesIt holding solve.asked (solve_paths solve) problem → LacksValues holding solve.values
     → IfKnown holding (λ held. IsMissing held (OfSolve solve))
 lacks_hints None solve problem poses none = tt
 lacks_hints (Some held) solve problem poses none =
-    inr ((problem, subst (λ (s : Sources). Asks Unbounded s solve.asked problem) poses.told poses.asks), none)
+    inr ((problem, subst (λ (s : Sources). Asks (solve_paths solve) s solve.asked problem) poses.told poses.asks), none)
 
 -- the initial states of the question that is reached are its states
 pub reached-inside : (problem : Problem) (posing : Posing) → posing_in problem ≡ Some posing
@@ -122,7 +122,7 @@ audit_asks audit = record {
       (λ held. IsMissing held (OfAudit audit)) (λ held missing. inl missing) lacks;
 }
 
-pub solve_asks : (solve : Solve) → AsksQuestion (OfSolve solve) solve.asked Unbounded
+pub solve_asks : (solve : Solve) → AsksQuestion (OfSolve solve) solve.asked (solve_paths solve)
 solve_asks solve = record {
   reads = tt;
   refuses = λ holding refusal refused. inl refused;
@@ -296,22 +296,20 @@ module _ {S X : Type 0} {held : S → Option Holding} {steady : S → Bool} {fau
   }
 
   -- where values to begin with were not loaded
-  pub unhinted : {Y : Type 0} {end : End} (solve : Solve) (problem : Problem) (posing : Posing)
-      → PosesIt (held old) solve.asked Unbounded problem → posing_in problem ≡ Some posing
-      → ((refusal : Refusal) → ◌≡◌ {A = Result Y End} (Err end) (Err (Refused refusal))
-      → RefusesValues (held middle) solve.values (states posing.question) refusal)
+  pub unhinted : {Y : Type 0} {end : End} (solve : Solve) (problem : Problem)
+      → PosesIt (held old) solve.asked (solve_paths solve) problem → ((refusal : Refusal)
+      → ◌≡◌ {A = Result Y End} (Err end) (Err (Refused refusal))
+      → RefusesValues (held middle) solve.values (states_of problem) refusal)
       → (IsErrOf {T = Y} (Err end) ReadFault → steady middle ≡ true → LacksValues (held middle) solve.values)
       → LoadingLeaves {X = Y} held steady faults took middle new (Err end) → EndsCaused {X = Y} (Err end)
       → IsAnswered held steady faults took (OfSolve solve) old new (Err end)
-  unhinted {Y} {end} solve problem posing poses reached refused steadily rest caused = record {
+  unhinted {Y} {end} solve problem poses refused steadily rest caused = record {
     answered = λ words denoted. tt;
     status = tt;
     refused = λ refusal is. inr (record {
       problem = problem;
       posed = poses;
-      posing = posing;
-      reached = reached;
-      values = subst (λ (h : Option Holding). RefusesValues h solve.values (states posing.question) refusal)
+      values = subst (λ (h : Option Holding). RefusesValues h solve.values (states_of problem) refusal)
           leaves.kept.held (refused refusal (same_end end (Refused refusal) is));
     });
     caused = same_caused Y Answer end caused;

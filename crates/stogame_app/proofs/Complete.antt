@@ -3,7 +3,7 @@ use Rattle.std.proofs.Common.{◌≡◌, ◌<◌, ◌≤◌, ◌⊎◌, ◌↔�
 use Rattle.std.proofs.Common.{refl, subst, sym, arith}
 use Rattle.text_lines.specs.Limits.{most_bytes}
 use Rattle.game_outside.specs.Outside.{Holding}
-use Rattle.game_model.specs.Query.{Query, states}
+use Rattle.game_model.specs.Query.{Query}
 use Rattle.values_reader.specs.Faults.{fault_of}
 use Rattle.plan_text.specs.declared.plan.Plan.{Plan}
 use Rattle.certificate_audit.specs.declared.fault.AuditFault.{AuditFault}
@@ -17,7 +17,7 @@ use Rattle.run_refusals.specs.declared.refusal.Refusal.TheVariants.{WrongKind, O
 use Rattle.asked_files.specs.declared.problem.Paths.{Paths}
 use Rattle.asked_files.specs.declared.problem.Paths.TheVariants.{Unbounded, Reaching}
 use Rattle.formula_sets.specs.Posing.{Posing}
-use Rattle.asked_files.specs.Problems.{Problem, posing_in}
+use Rattle.asked_files.specs.Problems.{Problem, posing_in, states_of}
 use Rattle.asked_files.specs.Said.{NotHeld, Denoted, and_then}
 use Rattle.asked_files.specs.Sources.{Sources, sources_of, IfKnown}
 use Rattle.asked_files.specs.Posed.{posed, problem_said, reading_said}
@@ -29,7 +29,7 @@ use Rattle.run_answers.specs.declared.status.Status.TheVariants.{Fine, SomeFalse
 use Rattle.run_answers.specs.declared.status.Status.TheVariants.{ReadFault, WriteFault, OutOfMemory, CertificateRefused}
 use Rattle.run_answers.specs.Status.{IsAnswer}
 use Rattle.stogame_app.specs.Commands.{IsAcceptedOf, IsAcceptedFrom, IsMissing, ReadsFiles, RefusesBehind, RefusesHints}
-use Rattle.stogame_app.specs.Commands.{RefusesIt, check_paths}
+use Rattle.stogame_app.specs.Commands.{RefusesIt, check_paths, solve_paths}
 use Rattle.stogame_app.specs.Run.{AsksShelf, IsAcceptedOfWords, IsEnding, IsMissingOfWords, IsReadable, RefusesWords}
 
 -- 1. A question, and a certificate.
@@ -154,18 +154,17 @@ question_not_refused are apart holding held (OfCheck check) refusal told accepte
 question_not_refused are apart holding held (OfSure asked) refusal told accepted refused =
     asked_not_refused are holding held asked Reaching accepted.0 refusal told accepted.1 refused
 question_not_refused are apart holding held (OfSolve solve) refusal told accepted refused = elim refused [
-  | inl question ↦ asked_not_refused are holding held solve.asked Unbounded accepted.0 refusal told accepted.2 question
+  | inl question ↦
+      asked_not_refused are holding held solve.asked (solve_paths solve) accepted.0 refusal told accepted.1 question
   | inr behind ↦ by_hints (subst (λ (h : Option Holding). RefusesHints h solve refusal) told behind)
 ]
   where
     by_hints : RefusesHints (Some held) solve refusal → ⊥
     by_hints behind =
-        let same = asked_once are held solve.asked Unbounded accepted.0 behind.problem accepted.2 behind.posed in
-        let alike : Some behind.posing ≡ Some accepted.1 = sym behind.reached ∙ (ap posing_in same ∙ accepted.3) in
-        let posing : behind.posing ≡ accepted.1 = cc (alike) in
-        given_not_refused held solve.values (states (accepted.1).question) refusal accepted.4
-        (subst (λ (p : Posing). RefusesValues (Some held) solve.values (states p.question) refusal)
-        posing behind.values)
+        let same =
+        asked_once are held solve.asked (solve_paths solve) accepted.0 behind.problem accepted.1 behind.posed in
+        given_not_refused held solve.values (states_of accepted.0) refusal accepted.2
+        (subst (λ (p : Problem). RefusesValues (Some held) solve.values (states_of p) refusal) same behind.values)
 question_not_refused are apart holding held (OfAudit audit) refusal told accepted refused = elim refused [
   | inl question ↦ asked_not_refused are holding held audit.asked Unbounded accepted.0 refusal told accepted.3 question
   | inr behind ↦ by_behind (subst (λ (h : Option Holding). RefusesBehind h audit refusal) told behind)
@@ -216,8 +215,8 @@ command_is_held are (Some other) held command told accepted missing =
         asked_is_held are held check.asked (check_paths check) accepted.0 accepted.1 missing
     of_held (OfSure asked) accepted missing = asked_is_held are held asked Reaching accepted.0 accepted.1 missing
     of_held (OfSolve solve) accepted missing = elim missing [
-      | inl question ↦ asked_is_held are held solve.asked Unbounded accepted.0 accepted.2 question
-      | inr behind ↦ given_is_held held solve.values (states (accepted.1).question) accepted.4 behind.1
+      | inl question ↦ asked_is_held are held solve.asked (solve_paths solve) accepted.0 accepted.1 question
+      | inr behind ↦ given_is_held held solve.values (states_of accepted.0) accepted.2 behind.1
     ]
     of_held (OfAudit audit) accepted missing = elim missing [
       | inl question ↦ asked_is_held are held audit.asked Unbounded accepted.0 accepted.3 question

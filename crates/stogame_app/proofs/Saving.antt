@@ -20,6 +20,7 @@ use Rattle.formula_sets.specs.Posing.{Posing, init}
 use Rattle.command_words.specs.Words.{Asked, Check, Audit, Command, OfCheck, OfAudit, OfSolve, OfMake, OfSure}
 use Rattle.command_words.specs.Words.{AreCommand}
 use Rattle.run_answers.specs.declared.status.Status.{Status}
+use Rattle.formula_truth.specs.declared.way.Way.TheVariants.{ByRounds}
 use Rattle.asked_files.specs.Asks.{Asks}
 use Rattle.asked_files.specs.declared.problem.Paths.{Paths}
 use Rattle.asked_files.specs.declared.problem.Paths.TheVariants.{Any, Unbounded}
@@ -29,7 +30,7 @@ use Rattle.rpatl_syntax.specs.Dual.{answered}
 use Rattle.asked_files.specs.Sources.{Sources, sources_of}
 use Rattle.stogame_app.specs.Commands.{IsAcceptedOf, check_paths}
 use Rattle.stogame_app.specs.Reports.{Checks, IsReportOfWords, of_reach, of_within, of_next, of_nested, of_audit}
-use Rattle.stogame_app.specs.Reports.{of_solve, of_sure, of_make}
+use Rattle.stogame_app.specs.Reports.{of_solve, of_solve_within, of_solve_next, of_solve_nested, of_sure, of_make}
 use Rattle.stogame_app.proofs.Complete.{AreOneCommand}
 use Rattle.run_answers.proofs.Passing.{AreReadBack}
 use Rattle.run_answers.proofs.PlainParts.{spellable-plain, answered-plain}
@@ -130,12 +131,19 @@ printed-short one spellable words holding taken check text status denoted (of_ne
 printed-short one spellable words holding taken check text status denoted
     (of_nested other model initial f asks report) =
     let few = check-few spellable other (OfNested model initial) f asks in
-    nested-text-short model initial f other.rounds text status few.states report
+    nested-text-short model initial f (ByRounds other.rounds) text status few.states report
 printed-short one spellable words holding taken check text status denoted
     (of_audit audit problem p f asks reached audited) =
     absurd (same_check one words check (OfAudit audit) denoted asks.denoted)
+printed-short one spellable words holding taken check text status denoted (of_solve solve p f asks given solved) =
+    absurd (same_check one words check (OfSolve solve) denoted asks.denoted)
 printed-short one spellable words holding taken check text status denoted
-    (of_solve solve problem p f asks reached given solved) =
+    (of_solve_within solve steps p f asks report) =
+    absurd (same_check one words check (OfSolve solve) denoted asks.denoted)
+printed-short one spellable words holding taken check text status denoted (of_solve_next solve p f asks report) =
+    absurd (same_check one words check (OfSolve solve) denoted asks.denoted)
+printed-short one spellable words holding taken check text status denoted
+    (of_solve_nested solve model initial f asks report) =
     absurd (same_check one words check (OfSolve solve) denoted asks.denoted)
 printed-short one spellable words holding taken check text status denoted
     (of_sure asked problem p f all asks reached sure ends) =
@@ -158,6 +166,12 @@ record IsSaved (held later : Holding) (check : Check) (audit : Audit) (text : Li
 
 pub not_some : (p : Option Posing) → p ≡ None → IsSome p → ⊥
 not_some p none some = let is : IsSome {T = Posing} None = subst (λ (o : Option Posing). IsSome o) none some in cc (is)
+
+-- a problem that is asked for paths without a bound on the steps alone has a question
+pub asked-posing : (sources : Sources) (asked : Asked) (problem : Problem) → Asks Unbounded sources asked problem
+    → posing_in problem ≡ None → ⊥
+asked-posing sources asked problem a none =
+    not_some (posing_in problem) none (has-posing a.game a.labels a.owners a.formula problem a.poses a.taken)
 
 module _ (read_back : AreReadBack) (certificates : AreCertificates) (one : AreOneCommand) (spellable : AreSpellable)
     (words : List (List ℕ)) (held later : Holding) (taken : ℕ) (audit : Audit) (text : List ℕ) (status : Status) where
@@ -199,8 +213,7 @@ module _ (read_back : AreReadBack) (certificates : AreCertificates) (one : AreOn
   no-certificate : (check : Check) (problem : Problem) (f : Tree) → posing_in problem ≡ None
       → IsSaved held later check audit text → Checks words (Some held) taken check problem f → ⊥
   no-certificate check problem f none saved asks =
-      let a = later_asks check problem f saved asks in
-      not_some (posing_in problem) none (has-posing a.game a.labels a.owners a.formula problem a.poses a.taken)
+      asked-posing (sources_of later check.asked) check.asked problem (later_asks check problem f saved asks) none
 
   -- words denote one `check`
   of_other : (check other : Check) → AreCommand words (OfCheck check) → AreCommand words (OfCheck other)
@@ -221,7 +234,13 @@ module _ (read_back : AreReadBack) (certificates : AreCertificates) (one : AreOn
       (no-certificate other (OfNested model initial) f refl (of_other check other denoted asks.denoted saved) asks)
   by_report check denoted saved (of_audit other problem p f asks reached audited) =
       absurd (same_check one words check (OfAudit other) denoted asks.denoted)
-  by_report check denoted saved (of_solve solve problem p f asks reached given solved) =
+  by_report check denoted saved (of_solve solve p f asks given solved) =
+      absurd (same_check one words check (OfSolve solve) denoted asks.denoted)
+  by_report check denoted saved (of_solve_within solve steps p f asks report) =
+      absurd (same_check one words check (OfSolve solve) denoted asks.denoted)
+  by_report check denoted saved (of_solve_next solve p f asks report) =
+      absurd (same_check one words check (OfSolve solve) denoted asks.denoted)
+  by_report check denoted saved (of_solve_nested solve model initial f asks report) =
       absurd (same_check one words check (OfSolve solve) denoted asks.denoted)
   by_report check denoted saved (of_sure asked problem p f all asks reached sure ends) =
       absurd (same_check one words check (OfSure asked) denoted asks.denoted)

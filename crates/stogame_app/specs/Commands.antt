@@ -1,8 +1,7 @@
 -- What a command asks of texts: the limits of its numbers, its first refusal, that a text is not held, or that all is
 -- accepted.
-use Rattle.std.specs.Prelude.{◌≡◌, ◌⊎◌, ◌||◌, Option, Some, None, if◌then◌else◌}
+use Rattle.std.specs.Prelude.{◌≡◌, ◌⊎◌, ◌||◌, Option, Some, None, is_some, if◌then◌else◌}
 use Rattle.game_outside.specs.Outside.{Holding}
-use Rattle.game_model.specs.Query.{states}
 use Rattle.formula_sets.specs.Posing.{Posing}
 use Rattle.plan_text.specs.declared.plan.Plan.{Plan}
 use Rattle.certificate_audit.specs.Accepted.{IsAccepted}
@@ -11,7 +10,7 @@ use Rattle.command_words.specs.Words.{AreInRange, IsMakeInRange}
 use Rattle.run_refusals.specs.declared.refusal.Refusal.{Refusal}
 use Rattle.asked_files.specs.declared.problem.Paths.{Paths}
 use Rattle.asked_files.specs.declared.problem.Paths.TheVariants.{Any, Unbounded, Reaching}
-use Rattle.asked_files.specs.Problems.{Problem, posing_in}
+use Rattle.asked_files.specs.Problems.{Problem, posing_in, states_of}
 use Rattle.asked_files.specs.Said.{NotHeld}
 use Rattle.asked_files.specs.Sources.{SourceWith, sources_of}
 use Rattle.asked_files.specs.Posed.{reading_said}
@@ -40,6 +39,10 @@ ReadsFiles (OfSure asked) = Unit {0}
 abbrev pub check_paths : Check → Paths
 check_paths check = if check.plan || check.traps then Unbounded else Any
 
+-- so are a certificate of `solve`, and values to begin with
+abbrev pub solve_paths : Solve → Paths
+solve_paths solve = if solve.plan || is_some solve.values then Unbounded else Any
+
 -- 1. Refusals.
 
 -- the problem is posed, and this is the first refusal of the text under the name of the certificate
@@ -53,10 +56,8 @@ pub record RefusesBehind (holding : Option Holding) (audit : Audit) (refusal : R
 -- the problem is posed, and this is the first refusal of the text under the name of values to begin with
 pub record RefusesHints (holding : Option Holding) (solve : Solve) (refusal : Refusal) : Type 0 where
   pub problem : Problem
-  pub posed : PosesIt holding solve.asked Unbounded problem
-  pub posing : Posing
-  pub reached : posing_in problem ≡ Some posing
-  pub values : RefusesValues holding solve.values (states posing.question) refusal
+  pub posed : PosesIt holding solve.asked (solve_paths solve) problem
+  pub values : RefusesValues holding solve.values (states_of problem) refusal
 
 -- the first refusal of a command: of the problem, or else, for an audit, of the certificate, and for a `solve`, of
 -- values to begin with
@@ -65,7 +66,7 @@ RefusesIt holding (OfCheck check) refusal = RefusesQuestion holding check.asked 
 RefusesIt holding (OfAudit audit) refusal =
     RefusesQuestion holding audit.asked Unbounded refusal ⊎ RefusesBehind holding audit refusal
 RefusesIt holding (OfSolve solve) refusal =
-    RefusesQuestion holding solve.asked Unbounded refusal ⊎ RefusesHints holding solve refusal
+    RefusesQuestion holding solve.asked (solve_paths solve) refusal ⊎ RefusesHints holding solve refusal
 RefusesIt holding (OfMake make) refusal = ⊥
 RefusesIt holding (OfSure asked) refusal = RefusesQuestion holding asked Reaching refusal
 
@@ -78,7 +79,7 @@ IsMissing held (OfAudit audit) = (reading_said (sources_of held audit.asked) aud
     ⊎ (((problem : Problem) × Asks Unbounded (sources_of held audit.asked) audit.asked problem)
     × (held audit.certificate ≡ None))
 IsMissing held (OfSolve solve) = (reading_said (sources_of held solve.asked) solve.asked ≡ NotHeld)
-    ⊎ (((problem : Problem) × Asks Unbounded (sources_of held solve.asked) solve.asked problem)
+    ⊎ (((problem : Problem) × Asks (solve_paths solve) (sources_of held solve.asked) solve.asked problem)
     × LacksValues (Some held) solve.values)
 IsMissing held (OfMake make) = ⊥
 IsMissing held (OfSure asked) = reading_said (sources_of held asked) asked ≡ NotHeld
@@ -90,9 +91,9 @@ IsAcceptedOf held (OfCheck check) = (problem : Problem)
 IsAcceptedOf held (OfAudit audit) = (problem : Problem) × (posing : Posing) × (plan : Plan)
     × Asks Unbounded (sources_of held audit.asked) audit.asked problem × (posing_in problem ≡ Some posing)
     × GivenTextWith (held audit.certificate) (λ text. IsAccepted posing.question text plan)
-IsAcceptedOf held (OfSolve solve) = (problem : Problem) × (posing : Posing)
-    × Asks Unbounded (sources_of held solve.asked) solve.asked problem × (posing_in problem ≡ Some posing)
-    × GivesValues (Some held) solve.values (states posing.question)
+IsAcceptedOf held (OfSolve solve) = (problem : Problem)
+    × Asks (solve_paths solve) (sources_of held solve.asked) solve.asked problem
+    × GivesValues (Some held) solve.values (states_of problem)
 IsAcceptedOf held (OfMake make) = Unit {0}
 IsAcceptedOf held (OfSure asked) = (problem : Problem) × Asks Reaching (sources_of held asked) asked problem
 

@@ -15,6 +15,7 @@ use Rattle.asked_files.specs.Sources.{SourceWith}
 use Rattle.asked_files.specs.Asks.{GivenTextWith}
 use Rattle.asked_files.specs.Questions.{PosesIt, GivesValues}
 use Rattle.run_answers.specs.declared.status.Status.{Status}
+use Rattle.formula_truth.specs.declared.way.Way.TheVariants.{ByRounds, BySolver}
 use Rattle.question_reports.specs.Reports.{IsBracketReport}
 use Rattle.question_reports.specs.Sweeps.{IsWithinReport, IsNextReport}
 use Rattle.question_reports.specs.Nested.{IsNestedReport}
@@ -23,7 +24,7 @@ use Rattle.question_reports.specs.Solved.{IsSolved}
 use Rattle.question_reports.specs.Made.{IsMade}
 use Rattle.question_reports.specs.Sure.{IsSure}
 use Rattle.stogame_app.specs.Status.{sure_status}
-use Rattle.stogame_app.specs.Commands.{check_paths}
+use Rattle.stogame_app.specs.Commands.{check_paths, solve_paths}
 
 -- the words denote this command; with texts, those that are held where this is told, what it asks poses this problem,
 -- by this formula; and no more bytes than the limit were taken of the last one
@@ -38,6 +39,11 @@ pub record WordsPose (words : List (List ℕ)) (holding : Option Holding) (taken
 abbrev pub Checks : List (List ℕ) → Option Holding → ℕ → Check → Problem → Tree → Type 0
 Checks words holding taken check problem f =
     WordsPose words holding taken (OfCheck check) check.asked (check_paths check) problem f
+
+-- and for this `solve`
+abbrev pub Solves : List (List ℕ) → Option Holding → ℕ → Solve → Problem → Tree → Type 0
+Solves words holding taken solve problem f =
+    WordsPose words holding taken (OfSolve solve) solve.asked (solve_paths solve) problem f
 
 -- The text and the status are the report of the command that the words denote.
 pub data IsReportOfWords (words : List (List ℕ)) (holding : Option Holding) (taken : ℕ) (text : List ℕ)
@@ -55,19 +61,30 @@ pub data IsReportOfWords (words : List (List ℕ)) (holding : Option Holding) (t
   -- `check` of a formula with others inside: bounds that are sound for the exact question
   of_nested : (check : Check) (model : Model) (initial : List ℕ) (f : Tree)
       → Checks words holding taken check (OfNested model initial) f
-      → IsNestedReport model initial f check.rounds text status → IsReportOfWords words holding taken text status
+      → IsNestedReport model initial f (ByRounds check.rounds) text status
+      → IsReportOfWords words holding taken text status
   -- `audit`: the numbers of a certificate that the question accepts, from the text under its name
   of_audit : (audit : Audit) (problem : Problem) (p : Posing) (f : Tree)
       → WordsPose words holding taken (OfAudit audit) audit.asked Unbounded problem f → posing_in problem ≡ Some p
       → SourceWith holding audit.certificate
       (λ source. GivenTextWith source (λ bytes. IsAudit p.question p.initial f bytes text status))
       → IsReportOfWords words holding taken text status
-  -- `solve`: a plan that tables of a solver led to; where a file of values to begin with is named, its text has no
-  -- fault
-  of_solve : (solve : Solve) (problem : Problem) (p : Posing) (f : Tree)
-      → WordsPose words holding taken (OfSolve solve) solve.asked Unbounded problem f → posing_in problem ≡ Some p
+  -- `solve` of `F`, `U` and `G`: a plan that tables of a solver led to; where a file of values to begin with is named,
+  -- its text has no fault
+  of_solve : (solve : Solve) (p : Posing) (f : Tree) → Solves words holding taken solve (OfReach p) f
       → GivesValues holding solve.values (states p.question) → IsSolved p.question p.initial f solve.plan text status
       → IsReportOfWords words holding taken text status
+  -- `solve` of `F<=k`, `U<=k` and `X`: as `check`
+  of_solve_within : (solve : Solve) (steps : ℕ) (p : Posing) (f : Tree)
+      → Solves words holding taken solve (OfWithin steps p) f
+      → IsWithinReport p.question steps p.initial f text status → IsReportOfWords words holding taken text status
+  of_solve_next : (solve : Solve) (p : NextPosing) (f : Tree) → Solves words holding taken solve (OfNext p) f
+      → IsNextReport p.question p.opening p.initial f text status → IsReportOfWords words holding taken text status
+  -- `solve` of a formula with others inside: bounds that are sound for the exact question, from plans in place of
+  -- rounds
+  of_solve_nested : (solve : Solve) (model : Model) (initial : List ℕ) (f : Tree)
+      → Solves words holding taken solve (OfNested model initial) f
+      → IsNestedReport model initial f BySolver text status → IsReportOfWords words holding taken text status
   -- `sure`: the states that are almost sure of the question
   of_sure : (asked : Asked) (problem : Problem) (p : Posing) (f : Tree) (all : Bool)
       → WordsPose words holding taken (OfSure asked) asked Reaching problem f → posing_in problem ≡ Some p

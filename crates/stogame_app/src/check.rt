@@ -20,6 +20,7 @@ use asked_files::{End, Loaded, Paths, Problem, load_model, pose_loaded};
 use command_words::CheckWords;
 use formula_reader::Formula;
 use formula_reader::laws::formulas_inside_are_few;
+use formula_truth::Way;
 use game_outside::{Gate, OutOfMemory, Shelf};
 use question_reports::{bracket_report, nested_report, next_report, within_report};
 use rpatl_syntax::laws::formulas_of_texts_are_spellable;
@@ -95,7 +96,10 @@ fn report_on<R: Threads + Sync, G: Gate + Sync>(
             within_report(rt, alloc, posed, *steps, formula, check.workers, gate)
         }
         Problem::Next(posed) => next_report(rt, alloc, posed, formula, check.workers, gate),
-        Problem::Nested(loaded, initial) => nested_report(rt, alloc, loaded, initial, check, gate),
+        Problem::Nested(loaded, initial) => {
+            let way = Way::ByRounds(check.rounds);
+            nested_report(rt, alloc, loaded, initial, way, check.workers, gate)
+        }
     }
 }
 

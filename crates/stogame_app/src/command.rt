@@ -90,7 +90,7 @@ fn answer<R: Threads + Sync, H: Shelf, G: Gate + Sync>(
     match command {
         CommandWords::Check(check) => answer_check(rt, alloc, check, shelf, gate),
         CommandWords::Audit(audit) => answer_audit(alloc, audit, shelf),
-        CommandWords::Solve(solve) => answer_solve(alloc, solve, shelf),
+        CommandWords::Solve(solve) => answer_solve(rt, alloc, solve, shelf, gate),
         CommandWords::Make(make) => answer_make(rt, alloc, make, gate),
         CommandWords::Sure(asked) => answer_sure(alloc, asked, shelf),
     }

@@ -1,60 +1,137 @@
-//! The answer of `solve`: bounds that a solver finds, where they pass the checks of an audit.
+//! The answer of `solve`: bounds that a solver finds, where they pass the checks of an audit, or exactly so many steps.
 
-ghost use Rattle.std.specs.Prelude.{◌≡◌, ◌≤◌, Ok, option_map};
+ghost use Rattle.std.specs.Prelude.{◌≡◌, ◌<◌, ◌≤◌, ℕ, List, Ok, Option, All, IfOk, option_map};
 ghost use Rattle.text_lines.specs.Limits.{most_bytes};
+ghost use Rattle.game_outside.specs.Outside.{Holding};
 ghost use Rattle.rpatl_syntax.specs.Dual.{IsAtMostOne};
+ghost use Rattle.rpatl_syntax.specs.Spellable.{HasKind};
+ghost use Rattle.formula_reader.specs.Formula.{tree_of};
 ghost use Rattle.command_words.specs.Words.{OfSolve, solve_of};
 ghost use Rattle.asked_files.specs.Loading.{LoadingLeaves};
 ghost use Rattle.asked_files.specs.Posed.{HasSizes, reading_of};
-ghost use Rattle.asked_files.specs.Questions.{Reads};
+ghost use Rattle.asked_files.specs.Problems.{initial_of, states_of};
+ghost use Rattle.asked_files.specs.Questions.{GivesValues, Reads};
+ghost use Rattle.asked_files.specs.SeenProblems.{HasDual, IsOfKind, problem_of};
+ghost use Rattle.run_answers.specs.Status.{IsAnswer};
 ghost use Rattle.stogame_app.specs.inside.Answers.{IsAnswered};
+ghost use Rattle.stogame_app.specs.Commands.{solve_paths};
+ghost use Rattle.stogame_app.specs.inside.Posed.{IsReportable};
+ghost use Rattle.stogame_app.specs.Reports.{IsReportOfWords, Solves};
 
-use asked_files::{End, Loaded, Paths, load_model, load_values, pose_loaded};
+use asked_files::{End, Loaded, Paths, Problem, load_model, load_values, pose_loaded};
 use command_words::SolveWords;
-use game_outside::Shelf;
-use question_reports::solved_report;
+use formula_reader::Formula;
+use formula_reader::laws::formulas_inside_are_few;
+use formula_truth::Way;
+use game_outside::{Gate, OutOfMemory, Shelf};
+use question_reports::{nested_report, next_report, solved_report, within_report};
+use rpatl_syntax::laws::formulas_of_texts_are_spellable;
 use run_answers::Answer;
 use std::alloc::Global;
+use std::thread::Threads;
+
+/// The most workers of a step.
+const WORKERS: u32 = 4;
 
 /// The report of `solve`, or why there is none.
-pub fn answer_solve<H: Shelf>(
+pub fn answer_solve<R: Threads + Sync, H: Shelf, G: Gate + Sync>(
+    rt: &R,
     alloc: Global,
     solve: &SolveWords<'_>,
     shelf: &mut H,
+    gate: &G,
 ) -> Result<Answer, End>
     ensures { IsAnswered H.held H.steady H.faults H.taken (OfSolve (solve_of solve.now)) shelf.old shelf.new result }
 {
     let loaded = load_model(alloc, shelf, &solve.asked)?;
-    solve_loaded(alloc, &loaded, solve, shelf)
+    solve_loaded(rt, alloc, &loaded, solve, shelf, gate)
 }
 
 // The report on what was loaded, with values to begin with that are read behind it.
-fn solve_loaded<H: Shelf>(
+fn solve_loaded<R: Threads + Sync, H: Shelf, G: Gate + Sync>(
+    rt: &R,
     alloc: Global,
     loaded: &Loaded,
     solve: &SolveWords<'_>,
     shelf: &mut H,
+    gate: &G,
 ) -> Result<Answer, End>
     requires sizes { HasSizes loaded.now.game loaded.now.labels loaded.now.owners }
     requires share { IsAtMostOne loaded.now.formula.bound }
     requires taken { H.taken shelf.old ≤ most_bytes }
+    requires read { (holding : Option Holding) × Reads holding (solve_of solve.now).asked (reading_of loaded.now) }
     ensures { (before : H) → Reads (H.held before) (solve_of solve.now).asked (reading_of loaded.now)
         → LoadingLeaves H.held H.steady H.faults H.taken before shelf.old (Ok loaded.now)
         → IsAnswered H.held H.steady H.faults H.taken (OfSolve (solve_of solve.now)) before shelf.new result }
 {
-    let problem = pose_loaded(alloc, loaded, Paths::Unbounded)?;
-    let posed = problem.reached();
-    let read = load_values(alloc, shelf, solve.values, posed.question.game().states())?;
-    let answered = problem.answered(&loaded.formula);
-    let answer = solved_report(
-        alloc,
-        posed,
-        &loaded.formula,
-        answered,
-        solve.plan,
-        as_hints(&read),
-    )?;
+    // Two laws: these calls do nothing.
+    formulas_of_texts_are_spellable();
+    formulas_inside_are_few();
+    let problem = pose_loaded(alloc, loaded, solve_paths(solve))?;
+    let read = load_values(alloc, shelf, solve.values, states_in(&problem))?;
+    let hints = as_hints(&read);
+    let answer = report_on(rt, alloc, &problem, &loaded.formula, solve, hints, gate)?;
     Ok(answer)
+}
+
+// The report on a problem, by the kind of its paths, with its certificate where that is asked for.
+fn report_on<R: Threads + Sync, G: Gate + Sync>(
+    rt: &R,
+    alloc: Global,
+    problem: &Problem<'_>,
+    formula: &Formula,
+    solve: &SolveWords<'_>,
+    hints: Option<&[f64]>,
+    gate: &G,
+) -> Result<Answer, OutOfMemory>
+    requires inside { All (λ s. s < states_of (problem_of problem.now)) (initial_of (problem_of problem.now)) }
+    requires kind { IsOfKind formula.now.kind problem.now }
+    requires dual { HasDual (tree_of formula.now) problem.now }
+    requires share { IsAtMostOne formula.now.bound }
+    requires steps { HasKind formula.now.kind (tree_of formula.now).left }
+    requires reportable { IsReportable problem.now (tree_of formula.now) }
+    ensures report { IfOk result (λ answer. (words : List (List ℕ)) (holding : Option Holding) (taken : ℕ)
+        → Solves words holding taken (solve_of solve.now) (problem_of problem.now) (tree_of formula.now)
+        → GivesValues holding (solve_of solve.now).values (states_of (problem_of problem.now))
+        → IsReportOfWords words holding taken answer.text.items answer.status) }
+    ensures answer { IfOk result (λ answer. IsAnswer answer.status) }
+{
+    match problem {
+        Problem::Reach(posed, _) => {
+            let answered = problem.answered(formula);
+            solved_report(alloc, posed, formula, answered, solve.plan, hints)
+        }
+        Problem::Within(posed, steps) => {
+            within_report(rt, alloc, posed, *steps, formula, WORKERS, gate)
+        }
+        Problem::Next(posed) => next_report(rt, alloc, posed, formula, WORKERS, gate),
+        Problem::Nested(loaded, initial) => {
+            nested_report(rt, alloc, loaded, initial, Way::BySolver, WORKERS, gate)
+        }
+    }
+}
+
+// Which formulas are taken: where a certificate is asked for or values are given, those without a bound on the steps
+// and with none inside.
+fn solve_paths(solve: &SolveWords<'_>) -> Paths
+    ensures { result ≡ solve_paths (solve_of solve.now) }
+{
+    if solve.plan || solve.values.is_some() {
+        Paths::Unbounded
+    } else {
+        Paths::Any
+    }
+}
+
+// How many states the game of a problem has.
+fn states_in(problem: &Problem<'_>) -> u32
+    ensures { result ≡ states_of (problem_of problem.now) }
+{
+    match problem {
+        Problem::Reach(posed, _) | Problem::Within(posed, _) => posed.question.game().states(),
+        Problem::Next(posed) => posed.question.game().states(),
+        Problem::Nested(loaded, _) => loaded.game.states(),
+    }
 }
 
 // Values to begin with, where there are any.

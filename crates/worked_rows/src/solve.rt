@@ -53,7 +53,53 @@ fn the_coin_loop_has_exactly_one_half(rt: HostRuntime) -> Result<(), Fail> {
     answers_write(&rt, rt.alloc(), command, front, OF_ONE_HALF)
 }
 
-const OTHER_PATHS: &[Answer<'static>] = &[
+// With a bound on the steps the lines are those of `check`.
+const OF_STEPS: &[Answer<'static>] = &[
+    (
+        "P>=0.5 [ F<=3 \"goal\" ]",
+        "lower 0.437500000000000 upper 0.437500000000000 steps 3 False",
+        Status::SomeFalse,
+    ),
+    (
+        "Pmax=? [ X \"goal\" ]",
+        "lower 0.250000000000000 upper 0.250000000000000 steps 1 Bracket",
+        Status::Fine,
+    ),
+];
+
+#[test]
+fn bounded_paths_have_the_lines_of_check(rt: HostRuntime) -> Result<(), Fail> {
+    let command = Command::Solve(OF_COIN_LOOP, None);
+    answers_write(&rt, rt.alloc(), command, "state 0 ", OF_STEPS)
+}
+
+// From state 0 a goal comes with one half, and within three steps with less.
+const WITH_INSIDE: &[Answer<'static>] = &[
+    (
+        "P>=1 [ F P>=0.5 [ F \"goal\" ] ]",
+        "lower 1.000000000000000 upper 1.000000000000000 solved True",
+        Status::Fine,
+    ),
+    (
+        "Pmin=? [ G P<0.5 [ F<=3 \"goal\" ] ]",
+        "lower 0.500000000000000 upper 0.500000000000000 solved Bracket",
+        Status::Fine,
+    ),
+    (
+        "P<0.3 [ F<=1 P>0.5 [ F \"goal\" ] ]",
+        "lower 0.250000000000000 upper 0.250000000000000 steps 1 True",
+        Status::Fine,
+    ),
+];
+
+#[test]
+fn formulas_inside_are_solved_at_every_state(rt: HostRuntime) -> Result<(), Fail> {
+    let command = Command::Solve(OF_COIN_LOOP, None);
+    let front = "inner 1 undecided 0\nstate 0 ";
+    answers_write(&rt, rt.alloc(), command, front, WITH_INSIDE)
+}
+
+const NO_PLAN: &[Answer<'static>] = &[
     (
         "Pmax=? [ F<=3 \"goal\" ]",
         "WrongKind",
@@ -68,15 +114,21 @@ const OTHER_PATHS: &[Answer<'static>] = &[
 ];
 
 #[test]
-fn other_paths_are_not_solved(rt: HostRuntime) -> Result<(), Fail> {
-    let command = Command::Solve(OF_COIN_LOOP, None);
+fn certificates_and_values_are_of_unbounded_paths(rt: HostRuntime) -> Result<(), Fail> {
+    let planned = Row {
+        numbers: PLAN,
+        ..OF_COIN_LOOP
+    };
+    let front = "refused question line 0 ";
     answers_write(
         &rt,
         rt.alloc(),
-        command,
-        "refused question line 0 ",
-        OTHER_PATHS,
-    )
+        Command::Solve(planned, None),
+        front,
+        NO_PLAN,
+    )?;
+    let begun = Command::Solve(OF_COIN_LOOP, Some("0.3\n"));
+    answers_write(&rt, rt.alloc(), begun, front, NO_PLAN)
 }
 
 // Israeli and Jalfon's ring of three processes (1990): a scheduler moves tokens, and a coin decides where to.

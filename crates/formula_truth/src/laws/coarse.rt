@@ -6,6 +6,7 @@ ghost use Rattle.formula_reader.specs.Formula.{State, Tree};
 ghost use Rattle.rpatl_syntax.specs.Spellable.{HasParts, HasShare};
 ghost use Rattle.verdicts.specs.declared.report.How.{How};
 ghost use Rattle.formula_sets.specs.Posing.{Model};
+ghost use Rattle.formula_truth.specs.declared.way.Way.TheVariants.{ByRounds};
 ghost use Rattle.formula_truth.specs.Truth.{states};
 ghost use Rattle.formula_truth.specs.Bands.{Band, Bands, known, undecided_in};
 ghost use Rattle.formula_truth.specs.Runs.{AreFound, AreFoundBy};
@@ -25,20 +26,21 @@ pub fn there_are_coarse_bounds()
 /// ones do.
 pub fn undecided_only_where_coarse_bounds_are()
     ensures finer { (m : Model) (asked : ℕ) (x : State) (found coarse : Bands x) → IsGame m.game → HasParts x
-        → AreFound m asked x found → AreCoarse m asked x coarse
+        → AreFound m (ByRounds asked) x found → AreCoarse m asked x coarse
         → IsFiner (states m) (known m.labels x found) (known m.labels x coarse) }
     ensures inside { (m : Model) (asked : ℕ) (x : State) (found coarse : Bands x) → IsGame m.game → HasParts x
-        → AreFound m asked x found → AreCoarse m asked x coarse
+        → AreFound m (ByRounds asked) x found → AreCoarse m asked x coarse
         → AreOpenWithin (states m) x found coarse }
     ensures fewer { (m : Model) (asked : ℕ) (x : State) (found coarse : Bands x) → IsGame m.game → HasParts x
-        → AreFound m asked x found → AreCoarse m asked x coarse
+        → AreFound m (ByRounds asked) x found → AreCoarse m asked x coarse
         → undecided_in x found (states m) ≤ undecided_in x coarse (states m) }
     // So is the outermost formula at the states where its run looks. If it asks for a value its bounds lie within the
     // coarse ones there.
     ensures outermost { (m : Model) (f : Tree) (asked : ℕ) (starts : List ℕ) (left coarse_left : Bands f.left)
         (right coarse_right : Bands f.right) (band coarse : Band) (how : How)
         → IsGame m.game → HasShare f.bound → HasParts f.left → HasParts f.right → All (λ s. s < states m) starts
-        → AreFound m asked f.left left → AreFound m asked f.right right
-        → AreFoundBy f.kind m f (known m.labels f.left left) (known m.labels f.right right) starts asked band how
+        → AreFound m (ByRounds asked) f.left left → AreFound m (ByRounds asked) f.right right
+        → AreFoundBy f.kind m f (known m.labels f.left left) (known m.labels f.right right) starts (ByRounds asked)
+        band how
         → IsCoarse m f asked coarse_left coarse_right coarse → AreWithin f.bound starts band coarse }
 {}

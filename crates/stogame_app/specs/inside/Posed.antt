@@ -1,4 +1,4 @@
--- What a report of `check` needs of the problem that was posed.
+-- What a report of `check` or of `solve` needs of the problem that was posed.
 use Rattle.std.specs.Prelude.{◌≡◌}
 use Rattle.formula_reader.specs.Formula.{Tree, tree_of}
 use Rattle.asked_files.specs.declared.problem.Problem.{Problem}

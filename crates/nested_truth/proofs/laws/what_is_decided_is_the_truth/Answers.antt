@@ -3,8 +3,8 @@ use Rattle.nested_truth.proofs.laws.what_is_decided_is_the_truth.Goals as goal
 
 pub returns-clause-sure : goal.returns-clause-sure
 returns-clause-sure c =
-    λ m truth asked x found game is parts h none. (decided-truth m game truth is asked x found parts h none).sure
+    λ m truth way x found game is parts h none. (decided-truth m game truth is way x found parts h none).sure
 
 pub returns-clause-possible : goal.returns-clause-possible
 returns-clause-possible c =
-    λ m truth asked x found game is parts h none. (decided-truth m game truth is asked x found parts h none).possible
+    λ m truth way x found game is parts h none. (decided-truth m game truth is way x found parts h none).possible

@@ -14,7 +14,7 @@ returns-clause-found g c =
     (subst (λ n. AreAlike n (exactly everywhere) (seen c.in_ok-left.left)) c.states.ensures c.in_ok-left.ensures.known)
     (subst (λ n. AreAlike n (negated (seen c.args.right)) (seen c.negated-right.result)) c.requires.right
     c.negated-right.ensures.known)
-    c.args.starts.now c.args.setting.rounds
+    c.args.starts.now c.args.setting.way
     (band_in c.in_ok-found.found) c.in_ok-found.found.how c.in_ok-found.ensures.found
     band_in (λ bounds. bounds.how) c.mirrored.result c.mirrored.ensures.band c.mirrored.ensures.how
 

@@ -6,5 +6,5 @@ use Rattle.nested_truth.proofs.operators.bounds_of.Goals as goal
 pub returns-in-Always-clause-found : goal.returns-in-Always-clause-found
 returns-in-Always-clause-found g c =
     always-of c.args.formula.now.kind c.in-Always.is (model_of c.args.setting) (tree_of c.args.formula.now)
-    (seen c.args.left.now) (seen c.args.right) c.args.starts.now c.args.setting.rounds
+    (seen c.args.left.now) (seen c.args.right) c.args.starts.now c.args.setting.way
     band_in (λ bounds. bounds.how) c.always.result c.always.ensures.found

@@ -1,7 +1,7 @@
 use Rattle.std.proofs.Common.{◌∙◌, sym}
 use Rattle.formula_reader.specs.Formula.{tree_of}
 use Rattle.formula_sets.specs.Posing.{next_question_of}
-use Rattle.nested_truth.proofs.Raced.{stepped-once, stepped-twice}
+use Rattle.nested_truth.proofs.Ways.{stepped-once, stepped-twice}
 use Rattle.nested_truth.proofs.sweeps.next_sweep.Goals as goal
 
 pub returns-then-are_equal-clause-swept : goal.returns-then-are_equal-clause-swept

@@ -12,7 +12,7 @@ returns-clause-report g c =
     let posed = sym e.posed ∙ c.requires.answerable.named in
     let same : found.initial.items ≡ c.args.initial.now = cc (posed) in
     answered-nested (record { game = loaded.game; labels = loaded.labels; owners = loaded.owners })
-    (tree_of loaded.formula) c.args.check.now.rounds found
+    (tree_of loaded.formula) c.args.way found
     (record {
       game = c.known.ensures;
       count = k.how;

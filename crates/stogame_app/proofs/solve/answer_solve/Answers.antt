@@ -10,7 +10,10 @@ returns-in_err-loaded g c =
     rw (p.1, p.2) (unloaded (solve_asks (solve_of c.args.solve.now)) e.refused e.steadily e.shelf e.caused)
 
 pub solve_loaded-requires-clause-taken : goal.solve_loaded-requires-clause-taken
-solve_loaded-requires-clause-taken g c = answer_small _ _ c.in_ok-loaded.ensures.shelf.takes
+solve_loaded-requires-clause-taken g c = λ κs live. answer_small _ _ c.in_ok-loaded.ensures.shelf.takes
+
+pub solve_loaded-requires-clause-read : goal.solve_loaded-requires-clause-read
+solve_loaded-requires-clause-read g c = λ κs live. (g.H.Shelf.held c.args.shelf.now, c.in_ok-loaded.ensures.reads)
 
 pub returns : goal.returns
 returns g c = c.solve_loaded.ensures c.args.shelf.now c.in_ok-loaded.ensures.reads c.in_ok-loaded.ensures.shelf

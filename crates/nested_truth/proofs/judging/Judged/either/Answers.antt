@@ -3,5 +3,5 @@ use Rattle.nested_truth.proofs.Parts.{judged-or}
 use Rattle.nested_truth.proofs.judging.Judged.either.Goals as goal
 
 pub returns : goal.returns
-returns c = λ m asked x y h i.
-    judged-or m asked x y c.args.self c.args.other _ h i c.either.ensures.states refl refl c.either.ensures.known
+returns c = λ m way x y h i.
+    judged-or m way x y c.args.self c.args.other _ h i c.either.ensures.states refl refl c.either.ensures.known

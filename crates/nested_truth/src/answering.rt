@@ -1,0 +1,102 @@
+//! Answers to questions without a bound on the steps: brackets of rounds, or plans of a solver.
+
+ghost use Rattle.std.specs.Prelude.{◌≡◌, ◌≢◌, ◌<◌, All, IfOk, IfSome, length};
+ghost use Rattle.game_model.specs.Query.{states};
+ghost use Rattle.formula_truth.specs.Runs.{AreAnswered, IsAnsweredBy};
+ghost use Rattle.nested_truth.specs.Seen.{IsBand, band_in, high_or};
+
+use crate::bounds::Bounds;
+use crate::questions::Questions;
+use crate::setting::Setting;
+use bracket_engine::{Bracket, bracket_for};
+use formula_reader::Bound;
+use formula_truth::Way;
+use game_model::Question;
+use game_outside::{Gate, OutOfMemory};
+use plan_text::Plan;
+use solved_questions::solve_question;
+use std::alloc::Global;
+use std::thread::Threads;
+use verdicts::How;
+
+/// The lower bounds of one question and the upper ones of another: one answer, where they are the same. A run of rounds
+/// ends where the bound is settled at all of these states.
+pub fn answer_both<R: Threads + Sync, G: Gate + Sync>(
+    rt: &R,
+    alloc: Global,
+    setting: Setting<'_>,
+    questions: &Questions<'_>,
+    bound: Bound,
+    starts: &[u32],
+    gate: &G,
+) -> Result<Bounds, OutOfMemory>
+    requires other { IfSome questions.now.high (λ question. questions.now.low ≢ question) }
+    requires low { questions.now.low.game ≡ setting.game.now }
+    requires high { (high_or questions.now.low questions.now.high).game ≡ setting.game.now }
+    requires starts { All (λ s. s < length setting.game.now) starts.now }
+    ensures answered { IfOk result (λ bounds. AreAnswered questions.now.low
+        (high_or questions.now.low questions.now.high) bound starts.now setting.entry.way
+        (band_in bounds) bounds.how) }
+    ensures band { IfOk result (λ bounds. IsBand (length setting.entry.game.now) (band_in bounds)) }
+{
+    let Bounds { lower, upper, how } = answer_one(
+        rt,
+        alloc,
+        setting,
+        &questions.low,
+        bound,
+        starts,
+        gate,
+    )?;
+    match &questions.high {
+        None => Ok(Bounds { lower, upper, how }),
+        Some(high) => {
+            let upper = answer_one(rt, alloc, setting, high, bound, starts, gate)?.upper;
+            Ok(Bounds { lower, upper, how })
+        }
+    }
+}
+
+// The answer to one question.
+fn answer_one<R: Threads + Sync, G: Gate + Sync>(
+    rt: &R,
+    alloc: Global,
+    setting: Setting<'_>,
+    question: &Question<'_>,
+    bound: Bound,
+    starts: &[u32],
+    gate: &G,
+) -> Result<Bounds, OutOfMemory>
+    requires game { question.now.game ≡ setting.game.now }
+    requires starts { All (λ s. s < length setting.game.now) starts.now }
+    ensures answer { IfOk result (λ bounds. IsAnsweredBy setting.entry.way question.now bound starts.now
+        bounds.lower.items bounds.upper.items bounds.how) }
+    ensures band { IfOk result (λ bounds. IsBand (length setting.entry.game.now) (band_in bounds)) }
+{
+    let predecessors = setting.predecessors;
+    let workers = setting.workers;
+    match setting.way {
+        Way::ByRounds(rounds) => {
+            let found = bracket_for(
+                rt,
+                alloc,
+                question,
+                predecessors,
+                bound,
+                starts,
+                rounds,
+                workers,
+                gate,
+            )?;
+            let bracket = found.bracket;
+            let how = How::Rounds(bracket.rounds);
+            let Bracket { lower, upper, .. } = bracket;
+            Ok(Bounds { lower, upper, how })
+        }
+        Way::BySolver => {
+            let Plan { lower, upper, .. } = solve_question(alloc, question, predecessors, None)?;
+            let how = How::Solved;
+            Ok(Bounds { lower, upper, how })
+        }
+    }
+}
