@@ -1,10 +1,10 @@
 -- Where the outer set is the inner one, its states reach a goal almost surely, and those that stay away do not.
-use Rattle.std.proofs.Common.{◌≡◌, ℕ, zero, suc, ◌+◌, ◌-◌, ◌*◌, ◌^◌, ◌<◌, ◌≤◌, Bool, true, false, List, length, map, replicate}
+use Rattle.std.proofs.Common.{◌≡◌, ℕ, zero, suc, ◌+◌, ◌-◌, ◌*◌, ◌^◌, ◌<◌, ◌≤◌, Bool, true, false, List, map}
 use Rattle.std.proofs.Common.{arith, sym, ap, ◌∙◌, subst, inl, inr, not}
 use Rattle.std.proofs.lemmas.Bool.{cases_Bool, not_from_true, not_from_false, not-false}
 use Rattle.std.specs.Prelude.{slice_index_or}
 use Rattle.std.proofs.lemmas.Nat.{pow-add}
-use Rattle.std.proofs.lemmas.List.{get_or-map, get_or-replicate, length-replicate}
+use Rattle.std.proofs.lemmas.List.{get_or-map}
 use Rattle.std.proofs.Math.Nat.{mul-le-mul_left, pow-suc, pow-zero, one-le-pow}
 use Rattle.game_model.specs.Query.{Query, IsQuery, states}
 use Rattle.game_model.specs.Values.{denominator, numerator}
@@ -16,7 +16,6 @@ use Rattle.almost_sure.specs.inside.Going.{how_many, IsGone}
 use Rattle.almost_sure.proofs.Away.{IsAway-more}
 use Rattle.almost_sure.proofs.Going.{IsGone-few}
 use Rattle.almost_sure.proofs.Nearer.{ComesNearer, ComesNearer-grown}
-use Rattle.almost_sure.proofs.Positive.{ComesNearer-positive}
 use Rattle.game_laws.proofs.Powers.{horizon_of, pow-horizon_of, pow-far}
 
 first-round : (d a n : ℕ) → d ^ 0 ≤ n + a ^ 0
@@ -75,15 +74,19 @@ IsAway-not_sure q e s posed away sure =
     both-ways (D ^ e) (numerator q at.0 s) (D ^ at.0) (one-le-pow at.0 D positive)
     (subst (λ x. numerator q at.0 s * D ^ e + D ^ at.0 ≤ x) (pow-add D e at.0) (away at.0)) at.1
 
--- the answer
-AreAlmostSure-set : (q : Query) (inner : List Bool) → IsQuery q → length inner ≡ states q
-    → ComesNearer q (map not inner) inner
-    → ((s : ℕ) → s < states q → slice_index_or inner s false ≡ false → IsAway q (states q) s) → AreAlmostSure q inner
-AreAlmostSure-set q inner posed many near away =
+-- where the inner set leaves no other state, it is the answer
+pub AreAlmostSure-inner : (q : Query) (inner : List Bool) → IsQuery q → IsGone q (map not inner)
+    → IsAttractor q (gone_barred (map not inner)) inner → AreAlmostSure q inner
+AreAlmostSure-inner q inner posed gone drawn =
     let at : (s : ℕ) → s < states q → slice_index_or (map not inner) s false ≡ not (slice_index_or inner s false) =
-    λ s inside. get_or-map not inner s false false (omega (arith, many)) in
+    λ s inside. get_or-map not inner s false false (omega (arith, inside, drawn.many)) in
+    let near : ComesNearer q (map not inner) inner =
+    ComesNearer-grown q (map not inner) inner posed gone.deads drawn.grew in
+    let away : (s : ℕ) → s < states q → slice_index_or inner s false ≡ false → IsAway q (states q) s =
+    λ s inside out. IsAway-more q (how_many (map not inner)) (states q) s posed (IsGone-few q (map not inner) gone)
+    (gone.away s inside (at s inside ∙ not_from_false (slice_index_or inner s false) out)) in
     record {
-      as_many = many;
+      as_many = drawn.many;
       exact = λ s inside. (
         λ marked. IsAlmostSure-within q (map not inner) inner posed near (λ t l within.
             not-false (slice_index_or inner t false) (sym (at t l) ∙ within)) s inside
@@ -95,24 +98,3 @@ AreAlmostSure-set q inner posed many near away =
       );
       unmarked = away;
     }
-
--- where each state has a positive value, all are
-pub AreAlmostSure-all : (q : Query) → IsQuery q → ((s : ℕ) → s < states q → (k : ℕ) × (1 ≤ numerator q k s))
-    → AreAlmostSure q (replicate (states q) true)
-AreAlmostSure-all q posed some =
-    let all : (s : ℕ) → s < states q → slice_index_or (replicate (states q) true) s false ≡ true =
-    λ s inside. get_or-replicate (states q) s true false inside in
-    AreAlmostSure-set q (replicate (states q) true) posed (length-replicate (states q) true)
-    (ComesNearer-positive q (map not (replicate (states q) true)) (replicate (states q) true) posed (λ s inside.
-    get_or-map not (replicate (states q) true) s false false
-    (omega (arith, inside, length-replicate (states q) true)) ∙ ap not (all s inside)) some)
-    (λ s inside out. let is : slice_index_or (replicate (states q) true) s false ≡ true = all s inside in absurd (cc))
-
--- where the inner set leaves no other state, it is the answer
-pub AreAlmostSure-inner : (q : Query) (inner : List Bool) → IsQuery q → IsGone q (map not inner)
-    → IsAttractor q (gone_barred (map not inner)) inner → AreAlmostSure q inner
-AreAlmostSure-inner q inner posed gone drawn =
-    AreAlmostSure-set q inner posed drawn.many (ComesNearer-grown q (map not inner) inner posed gone.deads drawn.grew)
-    (λ s inside out. IsAway-more q (how_many (map not inner)) (states q) s posed (IsGone-few q (map not inner) gone)
-    (gone.away s inside (get_or-map not inner s false false (omega (arith, inside, drawn.many))
-    ∙ not_from_false (slice_index_or inner s false) out)))

@@ -1,5 +1,5 @@
 use Rattle.std.proofs.Common.{◌≡◌, take}
-use Rattle.almost_sure.proofs.gone.list_of.Given as goal
+use Rattle.almost_sure.proofs.outer.list_of.Given as goal
 
 abbrev pub invariant-loop-state : goal.invariant-loop-state
 invariant-loop-state l = l.list.items ≡ take l.state l.marks

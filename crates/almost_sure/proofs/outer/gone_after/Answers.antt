@@ -4,7 +4,7 @@ use Rattle.game_model.specs.Query.{Query}
 use Rattle.game_model.specs.Dual.{swapped}
 use Rattle.attractors.specs.Attractor.{dead_barred, IsAttractor}
 use Rattle.almost_sure.proofs.Going.{goal-apart, IsGone-grown}
-use Rattle.almost_sure.proofs.gone.gone_after.Goals as goal
+use Rattle.almost_sure.proofs.outer.gone_after.Goals as goal
 
 pub other_side-requires-clause-apart : goal.other_side-requires-clause-apart
 other_side-requires-clause-apart c = goal-apart c.args.question.now c.args.gone.items c.known.ensures c.requires.gone

@@ -1,6 +1,6 @@
 use Rattle.std.proofs.Common.{◌≡◌, take, map}
 use Rattle.game_model.specs.Dual.{other_side}
-use Rattle.almost_sure.proofs.gone.other_side.Given as goal
+use Rattle.almost_sure.proofs.outer.other_side.Given as goal
 
 abbrev pub invariant-loop-state : goal.invariant-loop-state
 invariant-loop-state l = record {
