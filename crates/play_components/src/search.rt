@@ -200,6 +200,16 @@ impl Search {
         self.count = self.count.saturating_add(1);
     }
 
+    /// Makes a component of a state that was not met and has no kept choice.
+    fn close_alone(&mut self, state: u32)
+        requires { state < self.old.states }
+        ensures { self.new.states ≡ self.old.states }
+    {
+        self.component[state as usize] = self.count;
+        self.seen[state as usize].number = CLOSED;
+        self.count = self.count.saturating_add(1);
+    }
+
     /// Meets all states that this one leads to, and closes their components, in at most so many steps.
     fn run<K: Keeps>(
         &mut self,
@@ -235,12 +245,30 @@ impl Search {
         let mut search = Search::new(alloc, states)?;
         let most = most_steps(question);
         for state in 0..states {
-            if !search.has_met(state) {
+            if search.has_met(state) {
+                continue;
+            }
+            if keeps_any(question, kept, state) {
                 search.run(question, kept, state, most)?;
+            } else {
+                search.close_alone(state);
             }
         }
         Ok(search)
     }
+}
+
+/// Whether some choice of a state is kept.
+fn keeps_any<K: Keeps>(question: &Question, kept: &K, state: u32) -> bool
+    requires fits { K.fits kept.now question.now }
+    requires state { state < states question.now }
+{
+    for choice in 0..question.game().choices_of(state) {
+        if kept.keeps(question, state, choice) {
+            return true;
+        }
+    }
+    false
 }
 
 /// The most steps of a search: one for each edge, choice and state, and one to see that the path is empty.
