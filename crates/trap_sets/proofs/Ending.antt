@@ -1,5 +1,5 @@
 -- Parts whose states reach each other, less the states that have no inner choice, are end components.
-use Rattle.std.proofs.Common.{◌≡◌, ◌≢◌, ℕ, zero, suc, ◌-◌, ◌<◌, true, List, length, arith, sym, ◌∙◌, subst, inl, inr}
+use Rattle.std.proofs.Common.{◌≡◌, ◌≢◌, ℕ, zero, suc, ◌+◌, ◌-◌, ◌<◌, ◌≤◌, true, List, length, arith, sym, ◌∙◌, subst, inl, inr}
 use Rattle.std.proofs.Common.{Option}
 use Rattle.std.specs.Prelude.{slice_index}
 use Rattle.std.proofs.lemmas.Bool.{cases_eq}
@@ -75,7 +75,11 @@ module _ (q : Query) (replies : List (Option ℕ)) (class part : List ℕ) (h : 
       let now : IsStep q replies part s walk.0 = record {
         choice = step.choice;
         state = step.state;
-        inner = record { cut = step.inner.cut; stays = λ u leads. stays-now s u some (step.inner.stays u leads) };
+        inner = record {
+          some = some;
+          cut = step.inner.cut;
+          stays = λ u leads. stays-now s u some (step.inner.stays u leads);
+        };
         leads = step.leads;
       } in
       (walk.0, now, walk-now n walk.0 t (whole s walk.0 some (step.inner.stays walk.0 step.leads)) walk.2)
@@ -98,14 +102,21 @@ module _ (q : Query) (replies : List (Option ℕ)) (class part : List ℕ) (h : 
           ∙ sym (kept-number t two.0 (component.inside t in'')
           (ends-inner q replies class member listed t two.0 h component in'' two.1 two.2));
     };
-    rooted = λ s some.
-        let root : slice_index class (slice_index class s - 1) ≡ slice_index class s = rooted s (live s some) in
-        subst (λ x. slice_index part (x - 1) ≡ x) (sym (refines s some))
-        (refines (slice_index class s - 1) (whole s (slice_index class s - 1) some root) ∙ root);
+    rooted = record {
+      root = λ s some.
+          let root : slice_index class (slice_index class s - 1) ≡ slice_index class s =
+          rooted.root s (live s some) in
+          subst (λ x. slice_index part (x - 1) ≡ x) (sym (refines s some))
+          (refines (slice_index class s - 1) (whole s (slice_index class s - 1) some root) ∙ root);
+      least = λ s. elim (cases_eq (slice_index part s) 0) [
+        | inl none ↦ let e : slice_index part s ≤ s + 1 = omega (arith, none) in e
+        | inr some ↦ let e : slice_index part s ≤ s + 1 = omega (arith, refines s some, rooted.least s) in e
+      ];
+    };
     inner = λ s ls some.
         let one : (c : ℕ) × IsInner q replies class s c = inner-was s some in (
           one.0,
-          record { cut = one.1.cut; stays = λ t leads. stays-now s t some (one.1.stays t leads) },
+          record { some = some; cut = one.1.cut; stays = λ t leads. stays-now s t some (one.1.stays t leads) },
         );
     joined = λ s t some is.
         let comes : Comes q replies class s t =

@@ -1,8 +1,9 @@
 -- Parts that cut no end component.
-use Rattle.std.proofs.Common.{◌≡◌, ◌≢◌, ℕ, zero, suc, ◌-◌, ◌<◌, ◌≤◌, Bool, true, List, length, set, arith, sym, ◌∙◌}
-use Rattle.std.proofs.Common.{ap, subst, Option}
+use Rattle.std.proofs.Common.{◌≡◌, ◌≢◌, ℕ, zero, suc, ◌+◌, ◌-◌, ◌<◌, ◌≤◌, Bool, true, List, length, set, arith, sym, ◌∙◌}
+use Rattle.std.proofs.Common.{ap, subst, inl, inr, Option}
 use Rattle.std.specs.Prelude.{slice_index}
-use Rattle.std.proofs.lemmas.List.{get_or-set_same, get_or-set_other, length-set}
+use Rattle.std.proofs.lemmas.Bool.{cases_lt}
+use Rattle.std.proofs.lemmas.List.{get_or-set_same, get_or-set_other, get_or_past, length-set}
 use Rattle.game_model.specs.Game.{choices_of}
 use Rattle.game_model.specs.Query.{Query, states}
 use Rattle.trap_sets.specs.Ends.{IsMove, IsEndComponent}
@@ -17,6 +18,7 @@ pub ends-inner : (q : Query) (replies : List (Option ℕ)) (part : List ℕ) (me
     (s c : ℕ) → KeepsEnds q replies part → IsEndComponent q replies member listed → member s ≡ true
     → c < length (choices_of q.game s) → listed s c ≡ true → IsInner q replies part s c
 ends-inner q replies part member listed s c h component in' lc chosen = record {
+  some = h.kept member listed component s in';
   cut = component.cut s c in' lc chosen;
   stays = λ t leads. h.joined member listed component t s (component.closed s c t in' lc chosen leads) in';
 }
@@ -94,14 +96,18 @@ module _ (q : Query) (replies : List (Option ℕ)) (part : List ℕ) (h : KeepsE
           ∙ sym (k.named t (ends.inside t in'') (h.kept member listed ends t in''));
     }
 
--- each class is named after one of its states
+-- each class is named after the least of its states
 pub IsRooted-named : (part component names class : List ℕ) (n : ℕ) → IsNaming part component names class n
     → IsRooted class
-IsRooted-named part component names class n k s some =
-    let ls : s < n = omega (arith, within class s some, k.many) in
-    let named : slice_index class s ≡ slice_index names (slice_index component s) =
-    k.named s ls (λ none. some (k.out s ls none)) in
-    let known : slice_index class (slice_index names (slice_index component s) - 1)
-    ≡ slice_index names (slice_index component s) =
-    k.known (slice_index component s) (λ none. some (named ∙ none)) in
-    ap (λ x. slice_index class (x - 1)) named ∙ known ∙ sym named
+IsRooted-named part component names class n k = record {
+  root = λ s some.
+      let ls : s < n = omega (arith, within class s some, k.many) in
+      let named : slice_index class s ≡ slice_index names (slice_index component s) =
+      k.named s ls (λ none. some (k.out s ls none)) in
+      ap (λ x. slice_index class (x - 1)) named ∙ k.known (slice_index component s) (λ none. some (named ∙ none))
+      ∙ sym named;
+  least = λ s. elim (cases_lt s n) [
+    | inl below ↦ k.least s below
+    | inr past ↦ let e : slice_index class s ≤ s + 1 = omega (arith, get_or_past class s 0 (omega (arith, past, k.many))) in e
+  ];
+}

@@ -3,11 +3,10 @@ pub mod Capping
 pub mod Exits
 pub mod Closing
 pub mod Lowered
-pub mod Rootless
+pub mod Roots
 pub mod Listing
 pub mod Ending
 pub mod Opening
-pub mod Numbering
 pub mod Trapping
 pub mod Zeros
 pub mod Keeping

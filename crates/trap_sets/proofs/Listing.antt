@@ -1,5 +1,5 @@
 -- Whether a choice is inner, as a test.
-use Rattle.std.proofs.Common.{◌≡◌, ℕ, zero, suc, ◌<◌, Bool, true, false, List, [], ◌∷◌, length, get_or, arith, refl}
+use Rattle.std.proofs.Common.{◌≡◌, ◌≢◌, ℕ, zero, suc, ◌<◌, Bool, true, false, List, [], ◌∷◌, length, get_or, arith, refl}
 use Rattle.std.proofs.Common.{◌∙◌, ap, subst, Option, Some, None}
 use Rattle.std.specs.Prelude.{slice_index, slice_index_or, Contains, ◌==◌}
 use Rattle.std.specs.Bool.{if◌then◌else◌}
@@ -72,15 +72,16 @@ inner-listed q replies part s c h =
     else false) (cut-test-true (side_at q s) (slice_index_or replies s None) c h.cut.replied)
     ∙ same-all-true part (slice_index part s) (destinations (choice_of q.game s c).edges) h.stays
 
-pub listed-inner : (q : Query) (replies : List (Option ℕ)) (part : List ℕ) (s c : ℕ) → c < length (choices_of q.game s)
-    → listed-by q replies part s c ≡ true → IsInner q replies part s c
+pub listed-inner : (q : Query) (replies : List (Option ℕ)) (part : List ℕ) (s c : ℕ) → slice_index part s ≢ 0
+    → c < length (choices_of q.game s) → listed-by q replies part s c ≡ true → IsInner q replies part s c
 unfolding listed-by
-listed-inner q replies part s c lc h =
+listed-inner q replies part s c some lc h =
     let both : (cut-test (side_at q s) (slice_index_or replies s None) c ≡ true)
     × (same-all part (slice_index part s) (destinations (choice_of q.game s c).edges) ≡ true) =
     if-both (cut-test (side_at q s) (slice_index_or replies s None) c)
     (same-all part (slice_index part s) (destinations (choice_of q.game s c).edges)) h in
     record {
+      some = some;
       cut = record { inside = lc; replied = cut-test-from (side_at q s) (slice_index_or replies s None) c both.0 };
       stays = λ t leads. same-all-from part (slice_index part s)
           (destinations (choice_of q.game s c).edges) both.1 t leads.0 leads.1 leads.2;

@@ -1,5 +1,5 @@
 -- One more state is named.
-use Rattle.std.proofs.Common.{◌≡◌, ◌≢◌, ℕ, ◌+◌, ◌-◌, ◌<◌, List, [], ◌∷◌, ◌++◌, length, set, arith, refl, sym, ◌∙◌, ap, subst}
+use Rattle.std.proofs.Common.{◌≡◌, ◌≢◌, ℕ, ◌+◌, ◌-◌, ◌<◌, ◌≤◌, List, [], ◌∷◌, ◌++◌, length, set, arith, refl, sym, ◌∙◌, ap, subst}
 use Rattle.std.proofs.Common.{inl, inr}
 use Rattle.std.specs.Prelude.{slice_index}
 use Rattle.std.proofs.lemmas.Bool.{cases_eq}
@@ -13,6 +13,7 @@ IsNaming-none part component names none = record {
   many = refl;
   out = λ s l. absurd (omega (arith, l));
   named = λ s l. absurd (omega (arith, l));
+  least = λ s l. absurd (omega (arith, l));
   given = λ s l. absurd (omega (arith, l));
   known = λ p some. absurd (some (none p));
 }
@@ -31,43 +32,49 @@ module _ (part component names class : List ℕ) (n : ℕ) (h : IsNaming part co
     | inr other ↦ let below : s < n = omega (arith, l, other) in subst (P s) (sym (at-old v s below)) (before s below)
   ]
 
+  name-below : (p : ℕ) → slice_index names p ≢ 0 → slice_index names p - 1 < n
+  name-below p some = omega (
+    arith,
+    within class (slice_index names p - 1) (λ none. some (sym (h.known p some) ∙ none)),
+    h.many,
+  )
+
   IsNaming-push : (names' : List ℕ) (v : ℕ)
       → ((p : ℕ) → slice_index names p ≢ 0 → slice_index names' p ≡ slice_index names p)
       → ((p : ℕ) → slice_index names' p ≢ 0 → slice_index names p ≡ 0 → slice_index names' p ≡ n + 1)
       → ((p : ℕ) → slice_index names' p ≢ 0 → slice_index names p ≡ 0 → v ≡ n + 1)
       → (slice_index part n ≡ 0 → v ≡ 0) → (slice_index part n ≢ 0 → v ≡ slice_index names' (slice_index component n))
-      → (slice_index part n ≢ 0 → v ≢ 0) → IsNaming part component names' (class ++ v ∷ []) (n + 1)
-  IsNaming-push names' v kept new is out named given = record {
+      → v ≤ n + 1 → (slice_index part n ≢ 0 → v ≢ 0) → IsNaming part component names' (class ++ v ∷ []) (n + 1)
+  IsNaming-push names' v kept new is out named least given = record {
     many = omega (arith, length_push class v, h.many);
     out = by-place v (λ s x. slice_index part s ≡ 0 → x ≡ 0) h.out out;
     named = by-place v (λ s x. slice_index part s ≢ 0 → x ≡ slice_index names' (slice_index component s))
         (λ s l some. h.named s l some ∙ sym (kept (slice_index component s)
         (λ none. h.given s l some (h.named s l some ∙ none)))) named;
+    least = by-place v (λ s x. x ≤ s + 1) h.least least;
     given = by-place v (λ s x. slice_index part s ≢ 0 → x ≢ 0) h.given given;
     known = λ p some. elim (cases_eq (slice_index names p) 0) [
       | inl none ↦
           let at : slice_index names' p - 1 ≡ n = omega (arith, new p some none) in
           ap (slice_index (class ++ v ∷ [])) at ∙ at-new v ∙ is p some none ∙ sym (new p some none)
       | inr was ↦
-          let known : slice_index class (slice_index names p - 1) ≡ slice_index names p = h.known p was in
-          let below : slice_index names p - 1 < n =
-          omega (arith, within class (slice_index names p - 1) (λ none. was (sym known ∙ none)), h.many) in
-          ap (λ x. slice_index (class ++ v ∷ []) (x - 1)) (kept p was) ∙ at-old v (slice_index names p - 1) below
-          ∙ known ∙ sym (kept p was)
+          ap (λ x. slice_index (class ++ v ∷ []) (x - 1)) (kept p was)
+          ∙ at-old v (slice_index names p - 1) (name-below p was) ∙ h.known p was ∙ sym (kept p was)
     ];
   }
 
   -- a state without a part
   pub IsNaming-out : slice_index part n ≡ 0 → IsNaming part component names (class ++ 0 ∷ []) (n + 1)
   IsNaming-out out = IsNaming-push names 0 (λ p some. refl) (λ p some none. absurd (some none))
-      (λ p some none. absurd (some none)) (λ e. refl) (λ some. absurd (some out)) (λ some. absurd (some out))
+      (λ p some none. absurd (some none)) (λ e. refl) (λ some. absurd (some out)) (omega arith)
+      (λ some. absurd (some out))
 
   -- a state whose component has a name
   pub IsNaming-known : slice_index part n ≢ 0 → slice_index names (slice_index component n) ≢ 0
       → IsNaming part component names (class ++ slice_index names (slice_index component n) ∷ []) (n + 1)
   IsNaming-known some name = IsNaming-push names (slice_index names (slice_index component n)) (λ p is. refl)
       (λ p is none. absurd (is none)) (λ p is none. absurd (is none)) (λ none. absurd (some none)) (λ is. refl)
-      (λ is. name)
+      (omega (arith, name-below (slice_index component n) name)) (λ is. name)
 
   -- the first state of a component
   pub IsNaming-first : slice_index part n ≢ 0 → slice_index component n < length names
@@ -84,4 +91,4 @@ module _ (part component names class : List ℕ) (n : ℕ) (h : IsNaming part co
         | inl same ↦ ap (slice_index (set names own (n + 1))) same ∙ here
         | inr apart ↦ absurd (is (other p apart ∙ was))
       ])
-      (λ p is was. refl) (λ out. absurd (some out)) (λ is. sym here) (λ is e. absurd (omega (arith, e)))
+      (λ p is was. refl) (λ out. absurd (some out)) (λ is. sym here) (omega arith) (λ is e. absurd (omega (arith, e)))

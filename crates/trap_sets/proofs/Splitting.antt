@@ -2,7 +2,7 @@
 use Rattle.std.proofs.Common.{◌≡◌, ◌≢◌, ◌⊎◌, ℕ, ◌+◌, ◌-◌, ◌<◌, ◌≤◌, Bool, true, false, List, length, set, arith, refl, sym}
 use Rattle.std.proofs.Common.{◌∙◌, ap, subst, inl, inr, Option}
 use Rattle.std.specs.Prelude.{slice_index, slice_index_or}
-use Rattle.std.proofs.lemmas.Bool.{cases_eq, cases_Bool}
+use Rattle.std.proofs.lemmas.Bool.{cases_eq, cases_lt, cases_Bool}
 use Rattle.std.proofs.lemmas.List.{get_or-set_same, get_or-set_other, length-set}
 use Rattle.game_model.specs.Query.{Query}
 use Rattle.trap_sets.specs.Ends.{IsMove, IsEndComponent}
@@ -12,12 +12,12 @@ use Rattle.trap_sets.specs.declared.reach.Way.TheVariants.{On, Back}
 use Rattle.trap_sets.specs.Moves.{Reach}
 use Rattle.trap_sets.specs.inside.Parts.{IsRooted, root_of}
 use Rattle.trap_sets.specs.inside.Settled.{KeepsEnds, AreJoined}
-use Rattle.trap_sets.specs.inside.Rootless.{rootless, rootless_below}
+use Rattle.trap_sets.specs.inside.Roots.{roots, roots_below}
 use Rattle.trap_sets.specs.inside.Breaking.{IsBreak, IsSplit}
 use Rattle.trap_sets.specs.inside.OfInner.{IsStepOf}
 use Rattle.trap_sets.specs.inside.Reaching.{Passes, AreReached}
 use Rattle.trap_sets.proofs.Keeping.{walk-inner}
-use Rattle.trap_sets.proofs.Rootless.{rootless-fewer}
+use Rattle.trap_sets.proofs.Roots.{roots-more}
 use Rattle.trap_sets.proofs.Reaching.{walk-turned, closed-on, closed-back}
 use Rattle.trap_sets.proofs.Walking.{reach-join}
 use Rattle.trap_sets.proofs.Zeros.{within}
@@ -39,10 +39,13 @@ module _ (inner : Inner)
 
   -- where a search does not come to a state, its marks break up the part of the state
   pub IsBreak-missed : (way : Way) (marks : List Bool) (s : ℕ) → AreReached inner way marks
-      → slice_index inner.part.now s ≢ 0 → slice_index_or marks s false ≡ false
+      → (slice_index inner.part.now s ≢ 0) × (slice_index_or marks s false ≡ false)
+      × ((t : ℕ) → t < s → slice_index inner.part.now t ≢ 0 → slice_index_or marks t false ≡ true)
       → IsBreak inner.cut.question.now inner.cut.replies.now inner.part.now marks s
-  IsBreak-missed way marks s k some out =
-      let root : slice_index inner.part.now (root_of inner.part.now s) ≡ slice_index inner.part.now s = rooted s some in
+  IsBreak-missed way marks s k missed =
+      let some : slice_index inner.part.now s ≢ 0 = missed.0 in
+      let root : slice_index inner.part.now (root_of inner.part.now s) ≡ slice_index inner.part.now s =
+      rooted.root s some in
       let there : root_of inner.part.now s < length inner.part.now =
       within inner.part.now (root_of inner.part.now s) (λ none. some (sym root ∙ none)) in
       record {
@@ -50,7 +53,13 @@ module _ (inner : Inner)
         inside = omega (arith, within inner.part.now s some, h.many);
         some = some;
         root = k.reached.roots (root_of inner.part.now s) (omega (arith, there, h.many)) (omega (arith, root, some));
-        apart = out;
+        apart = missed.1;
+        first = λ t has out. elim (cases_lt t s) [
+          | inl before ↦
+              let is : slice_index_or marks t false ≡ true = missed.2 t before has in
+              absurd (cc)
+          | inr behind ↦ behind
+        ];
         whole = uncrossed way marks k;
       }
 
@@ -135,7 +144,7 @@ module _ (q : Query) (replies : List (Option ℕ)) (old : List ℕ) (marks : Lis
   unnamed s is =
       let some : slice_index old s ≢ 0 = λ none. absurd (omega (arith, is, none)) in
       let at : root_of old s ≡ state = omega (arith, is) in
-      let root : slice_index old state ≡ state + 1 = sym (ap (slice_index old) at) ∙ rooted s some ∙ is in
+      let root : slice_index old state ≡ state + 1 = sym (ap (slice_index old) at) ∙ rooted.root s some ∙ is in
       let here : root_of old state ≡ state = omega (arith, root) in
       let mark : slice_index_or marks state false ≡ true =
       sym (ap (λ u. slice_index_or marks u false) here) ∙ b.root in
@@ -185,9 +194,9 @@ module _ (q : Query) (replies : List (Option ℕ)) (old : List ℕ) (marks : Lis
   -- the root of a part is not moved
   root-stays : (s : ℕ) → slice_index old s ≢ 0 → slice_index new (root_of old s) ≡ slice_index old s
   root-stays s some = elim (at-state (root_of old s)) [
-    | inl stays ↦ stays ∙ rooted s some
+    | inl stays ↦ stays ∙ rooted.root s some
     | inr moved ↦
-        let same : slice_index old s ≡ slice_index old state = sym (rooted s some) ∙ moved.0 in
+        let same : slice_index old s ≡ slice_index old state = sym (rooted.root s some) ∙ moved.0 in
         let mark : slice_index_or marks (root_of old s) false ≡ true =
         subst (λ x. slice_index_or marks (x - 1) false ≡ true) (sym same) b.root in
         let out : slice_index_or marks (root_of old s) false ≡ false = moved.1 in
@@ -195,19 +204,28 @@ module _ (q : Query) (replies : List (Option ℕ)) (old : List ℕ) (marks : Lis
   ]
 
   pub IsRooted-split : IsRooted new
-  IsRooted-split s some = elim (at-state s) [
-    | inl stays ↦
-        subst (λ x. slice_index new (x - 1) ≡ x) (sym stays) (root-stays s (λ none. some (stays ∙ none)))
-    | inr moved ↦
-        let at : state + 1 - 1 ≡ state = omega arith in
-        let here : slice_index new state ≡ state + 1 =
-        k.moved state (omega (arith, b.inside, h.many, all)) refl b.apart in
-        subst (λ x. slice_index new (x - 1) ≡ x) (sym moved.2) (ap (slice_index new) at ∙ here)
-  ]
+  IsRooted-split = record {
+    root = λ s some. elim (at-state s) [
+      | inl stays ↦
+          subst (λ x. slice_index new (x - 1) ≡ x) (sym stays) (root-stays s (λ none. some (stays ∙ none)))
+      | inr moved ↦
+          let at : state + 1 - 1 ≡ state = omega arith in
+          let here : slice_index new state ≡ state + 1 =
+          k.moved state (omega (arith, b.inside, h.many, all)) refl b.apart in
+          subst (λ x. slice_index new (x - 1) ≡ x) (sym moved.2) (ap (slice_index new) at ∙ here)
+    ];
+    least = λ s. elim (at-state s) [
+      | inl stays ↦ let e : slice_index new s ≤ s + 1 = omega (arith, stays, rooted.least s) in e
+      | inr moved ↦
+          let behind : state ≤ s = b.first s (λ none. b.some (sym moved.0 ∙ none)) moved.1 in
+          let e : slice_index new s ≤ s + 1 = omega (arith, moved.2, behind) in
+          e
+    ];
+  }
 
   -- a root stays one, and the state becomes one
-  pub rootless-split : rootless new < rootless old
-  rootless-split = subst (λ n. rootless_below new n < rootless old) (sym k.many) (rootless-fewer old new (λ s root.
+  pub roots-split : roots old < roots new
+  roots-split = subst (λ n. roots old < roots_below new n) (sym k.many) (roots-more old new (λ s root.
       let some : slice_index old s ≢ 0 = λ none. absurd (omega (arith, root, none)) in
       let at : root_of old s ≡ s = omega (arith, root) in
       sym (ap (slice_index new) at) ∙ root-stays s some ∙ root) (length old) state (omega (arith, b.inside, h.many))

@@ -6,5 +6,4 @@ pub mod OfCut
 pub mod OfInner
 pub mod Reaching
 pub mod Naming
-pub mod Rootless
-pub mod Numbering
+pub mod Roots

@@ -4,7 +4,7 @@ ghost use Rattle.std.specs.Prelude.{◌≡◌, ◌≢◌, ℕ, ◌+◌, ◌<◌,
 ghost use Rattle.game_model.specs.Limits.{most_states};
 ghost use Rattle.trap_sets.specs.inside.OfCut.{states_in, KeepsEndsOf, AreJoinedIn, IsBreakOf};
 ghost use Rattle.trap_sets.specs.inside.Parts.{IsRooted};
-ghost use Rattle.trap_sets.specs.inside.Rootless.{rootless};
+ghost use Rattle.trap_sets.specs.inside.Roots.{roots};
 
 use crate::cut::Cut;
 use crate::inner::Inner;
@@ -26,7 +26,7 @@ pub fn break_up(alloc: Global, cut: &Cut<'_>, part: &mut [u32]) -> Result<bool, 
     ensures keeps { OnOk result (KeepsEndsOf cut.now part.new) }
     ensures rooted { OnOk result (IsRooted part.new) }
     ensures joined { IfOk result (λ breaks. breaks ≡ false → AreJoinedIn cut.now part.new) }
-    ensures fewer { IfOk result (λ breaks. breaks ≡ true → rootless part.new < rootless part.old) }
+    ensures more { IfOk result (λ breaks. breaks ≡ true → roots part.old < roots part.new) }
 {
     match find_break(alloc, cut, part)? {
         Some(found) => {
@@ -72,7 +72,8 @@ fn first_unmarked(part: &[u32], marks: &[bool]) -> Option<u32>
     requires few { length part.now ≤ most_states }
     requires many { length marks.now ≡ length part.now }
     ensures { MatchOption result ((s : ℕ) → slice_index part.now s ≢ 0 → slice_index_or marks.now s false ≡ true)
-        (λ s. (slice_index part.now s ≢ 0) × (slice_index_or marks.now s false ≡ false)) }
+        (λ s. (slice_index part.now s ≢ 0) × (slice_index_or marks.now s false ≡ false)
+        × ((t : ℕ) → t < s → slice_index part.now t ≢ 0 → slice_index_or marks.now t false ≡ true)) }
 {
     for place in 0..part.len() {
         if part[place] != 0 && !marks[place] {
@@ -89,7 +90,7 @@ fn split_off(cut: &Cut<'_>, part: &mut [u32], marks: &[bool], state: u32)
     requires breaks { IsBreakOf cut.now part.old marks.now state }
     ensures keeps { KeepsEndsOf cut.now part.new }
     ensures rooted { IsRooted part.new }
-    ensures fewer { rootless part.new < rootless part.old }
+    ensures more { roots part.old < roots part.new }
 {
     let _ = cut;
     let own = part[state as usize];

@@ -41,14 +41,16 @@ impl Cut<'_> {
         }
     }
 
-    /// Whether a choice is inner: one of the cut question that stays in the part of its state.
+    /// Whether a choice is inner: one of the cut question, at a state with a part, that stays in this part.
     pub(crate) fn is_inner(&self, part: &[u32], state: u32, choice: u32) -> bool
         requires state { state < states_in self.now }
         requires choice { choice < length (choices_of self.now.question.now.game state) }
         requires part { length part.now ≡ states_in self.now }
         ensures { IsTrue result ↔ IsInnerIn self.now part.now state choice }
     {
-        self.has(state, choice) && stays(self.question, part, state, choice)
+        part[state as usize] != 0
+            && self.has(state, choice)
+            && stays(self.question, part, state, choice)
     }
 
     /// The first inner choice of a state, from this one on; the number of choices where there is none.

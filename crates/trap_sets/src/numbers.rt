@@ -1,11 +1,11 @@
 //! Traps, numbered.
 
-ghost use Rattle.std.specs.Prelude.{◌≡◌, ℕ, ◌<◌, ◌≤◌, length, slice_index, IfOk};
+ghost use Rattle.std.specs.Prelude.{◌≡◌, ◌+◌, ◌<◌, ◌≤◌, length, IfOk};
 ghost use Rattle.game_model.specs.Limits.{most_states};
 ghost use Rattle.game_model.specs.Query.{states};
 ghost use Rattle.predecessors.specs.Lists.{ArePredecessors};
 ghost use Rattle.trap_sets.specs.Ends.{AreTraps};
-ghost use Rattle.trap_sets.specs.inside.Numbering.{IsNumbering};
+ghost use Rattle.trap_sets.specs.inside.Roots.{AreNumbers, number, roots, roots_below};
 ghost use Rattle.trap_sets.specs.inside.Parts.{IsRooted};
 ghost use Rattle.trap_sets.specs.inside.OfCut.{AreSettledOf};
 
@@ -65,36 +65,49 @@ pub fn traps_over(
     numbered(alloc, &cut, &part)
 }
 
-/// Numbers the parts by their least states.
+/// The parts, numbered by their least states, which are their roots.
 fn numbered(alloc: Global, cut: &Cut<'_>, part: &[u32]) -> Result<TrapSets, OutOfMemory>
     requires { AreSettledOf cut.now part.now }
     ensures { IfOk result (λ sets. AreTraps cut.now.question.now cut.now.replies.now sets.of.items sets.count) }
 {
-    let mut names = vec![in alloc; 0u32; part.len()]?;
+    let _ = cut;
+    let sets = number_all(alloc, part)?;
+    Ok(sets)
+}
+
+/// For each state the number of its part, and how many parts there are.
+fn number_all(alloc: Global, part: &[u32]) -> Result<TrapSets, OutOfMemory>
+    requires few { length part.now ≤ most_states }
+    requires rooted { IsRooted part.now }
+    ensures numbers { IfOk result (λ sets. AreNumbers part.now sets.of.items (length part.now)) }
+    ensures count { IfOk result (λ sets. sets.count ≡ roots part.now) }
+{
     let mut of = Vec::new(alloc);
-    let count = number_all(part, &mut names, &mut of)?;
+    let mut count = 0;
+    for place in 0..part.len() {
+        if part[place] as usize == place + 1 {
+            count += 1;
+        }
+        of.push(number_of(part, &of, place, count))?;
+    }
     Ok(TrapSets { of, count })
 }
 
-/// Numbers the parts by their least states. The name of a part stands at one of its states.
-fn number_all(part: &[u32], names: &mut [u32], of: &mut Vec<u32>) -> Result<u32, OutOfMemory>
-    requires few { length part.now ≤ most_states }
+/// The number of the part of the next state, where those of the states before it are found, and the roots up to it are
+/// counted.
+fn number_of(part: &[u32], of: &[u32], state: usize, count: u32) -> u32
+    requires state { state < length part.now }
     requires rooted { IsRooted part.now }
-    requires none { IsNumbering part.now names.old of.old.items 0 0 }
-    ensures { IfOk result (λ count. IsNumbering part.now names.new of.new.items (length part.now) count) }
+    requires before { AreNumbers part.now of.now state }
+    requires count { count ≡ roots_below part.now (state + 1) }
+    ensures { result ≡ number part.now state }
 {
-    let mut count = 0;
-    for own in part {
-        if *own == 0 {
-            of.push(0)?;
-        } else {
-            let place = *own as usize - 1;
-            if names[place] == 0 {
-                count += 1;
-                names[place] = count;
-            }
-            of.push(names[place])?;
-        }
+    let own = part[state] as usize;
+    if own == 0 {
+        return 0;
     }
-    Ok(count)
+    if own == state + 1 {
+        return count;
+    }
+    of[own - 1]
 }

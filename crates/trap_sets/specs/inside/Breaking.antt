@@ -5,13 +5,15 @@ use Rattle.game_model.specs.Query.{Query, states}
 use Rattle.trap_sets.specs.Ends.{IsEndComponent}
 use Rattle.trap_sets.specs.inside.Parts.{root_of}
 
--- marks that no end component crosses, and which have the root of the part of a state, but not the state
+-- marks that no end component crosses, and which have the root of the part of a state, but not the state, the first one
+-- with a part that they lack
 pub record IsBreak (q : Query) (replies : List (Option ℕ)) (part : List ℕ) (marks : List Bool) (s : ℕ) : Type 0 where
   pub many : length marks ≡ states q
   pub inside : s < states q
   pub some : slice_index part s ≢ 0
   pub root : slice_index_or marks (root_of part s) false ≡ true
   pub apart : slice_index_or marks s false ≡ false
+  pub first : (t : ℕ) → slice_index part t ≢ 0 → slice_index_or marks t false ≡ false → s ≤ t
   pub whole : (set : ℕ → Bool) (listed : ℕ → ℕ → Bool) → IsEndComponent q replies set listed → (t u : ℕ)
       → set t ≡ true → set u ≡ true → slice_index_or marks t false ≡ true → slice_index_or marks u false ≡ true
 

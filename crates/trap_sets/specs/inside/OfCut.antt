@@ -10,7 +10,7 @@ use Rattle.trap_sets.specs.inside.Breaking.{IsBreak}
 abbrev pub states_in : Cut → ℕ
 states_in cut = states cut.question.now
 
--- a choice of the cut question whose successors are in the part of its state
+-- a choice of the cut question, at a state with a part, whose successors are in that part
 abbrev pub IsInnerIn : Cut → List ℕ → ℕ → ℕ → Type 0
 IsInnerIn cut = IsInner cut.question.now cut.replies.now
 

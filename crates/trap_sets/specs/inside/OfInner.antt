@@ -13,7 +13,7 @@ states_of inner = states inner.cut.question.now
 abbrev pub LeadsOf : Inner → ℕ → ℕ → ℕ → Type 0
 LeadsOf inner = Leads inner.cut.question.now
 
--- a choice of the cut question whose successors are in the part of its state
+-- a choice of the cut question, at a state with a part, whose successors are in that part
 abbrev pub IsInnerOf : Inner → ℕ → ℕ → Type 0
 IsInnerOf inner = IsInner inner.cut.question.now inner.cut.replies.now inner.part.now
 

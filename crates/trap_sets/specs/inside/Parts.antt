@@ -1,5 +1,5 @@
 -- Parts of the states, and the choices that stay in them.
-use Rattle.std.specs.Prelude.{◌≡◌, ◌≢◌, ℕ, ◌-◌, ◌<◌, List, slice_index, Option}
+use Rattle.std.specs.Prelude.{◌≡◌, ◌≢◌, ℕ, ◌+◌, ◌-◌, ◌<◌, ◌≤◌, List, slice_index, Option}
 use Rattle.game_model.specs.Query.{Query, states}
 use Rattle.trap_sets.specs.Moves.{IsCut, Leads, Reach}
 
@@ -11,8 +11,9 @@ Stays q of s c = (t : ℕ) → Leads q s c t → slice_index of t ≡ slice_inde
 abbrev pub Leaves : Query → List ℕ → ℕ → ℕ → Type 0
 Leaves q of s c = (t : ℕ) × Leads q s c t × (slice_index of t ≢ slice_index of s)
 
--- a choice of the cut question whose successors are in the part of its state
+-- a choice of the cut question, at a state with a part, whose successors are in that part
 pub record IsInner (q : Query) (replies : List (Option ℕ)) (part : List ℕ) (s c : ℕ) : Type 0 where
+  pub some : slice_index part s ≢ 0
   pub cut : IsCut q replies s c
   pub stays : Stays q part s c
 
@@ -31,6 +32,7 @@ Comes q replies part s t = Reach (IsStep q replies part) s t
 abbrev pub root_of : List ℕ → ℕ → ℕ
 root_of part s = slice_index part s - 1
 
--- each part has its root
-abbrev pub IsRooted : List ℕ → Type 0
-IsRooted part = (s : ℕ) → slice_index part s ≢ 0 → slice_index part (root_of part s) ≡ slice_index part s
+-- each part has its root, which is its least state
+pub record IsRooted (part : List ℕ) : Type 0 where
+  pub root : (s : ℕ) → slice_index part s ≢ 0 → slice_index part (root_of part s) ≡ slice_index part s
+  pub least : (s : ℕ) → slice_index part s ≤ s + 1

@@ -1,23 +1,29 @@
-use Rattle.std.proofs.Common.{◌≡◌, ◌≢◌, ℕ, List, Bool, true, false, ap, sym, ◌∙◌, subst}
+use Rattle.std.proofs.Common.{◌≡◌, ◌≢◌, ℕ, ◌<◌, List, Bool, true, false, subst}
 use Rattle.std.specs.Prelude.{slice_index, slice_index_or}
 use Rattle.trap_sets.specs.declared.reach.Way.TheVariants.{On, Back}
 use Rattle.trap_sets.proofs.Splitting.{IsBreak-missed, AreJoined-met}
 use Rattle.trap_sets.proofs.breaking.search_break.Goals as goal
 
+-- the state that a list of marks lacks, of the marks
+missed : (part : List ℕ) (marks read : List Bool) (s : ℕ) → read ≡ marks
+    → (slice_index part s ≢ 0) × (slice_index_or read s false ≡ false)
+    × ((t : ℕ) → t < s → slice_index part t ≢ 0 → slice_index_or read t false ≡ true)
+    → (slice_index part s ≢ 0) × (slice_index_or marks s false ≡ false)
+    × ((t : ℕ) → t < s → slice_index part t ≢ 0 → slice_index_or marks t false ≡ true)
+missed part marks read s is found = subst (λ (xs : List Bool). (slice_index part s ≢ 0)
+    × (slice_index_or xs s false ≡ false)
+    × ((t : ℕ) → t < s → slice_index part t ≢ 0 → slice_index_or xs t false ≡ true)) is found
+
 pub returns-in-Some : goal.returns-in-Some
-returns-in-Some c =
-    let found = c.in-Some.ensures in
-    IsBreak-missed c.args.inner.now c.requires.keeps c.requires.rooted Back c.in_ok-back.back.items c.in-Some.state
-    c.in_ok-back.ensures found.0
-    (ap (λ (xs : List Bool). slice_index_or xs c.in-Some.state false) (sym c.deref.ensures.value) ∙ found.1)
+returns-in-Some c = IsBreak-missed c.args.inner.now c.requires.keeps c.requires.rooted Back c.in_ok-back.back.items
+    c.in-Some.state c.in_ok-back.ensures (missed c.args.inner.now.part.now c.in_ok-back.back.items c.deref.result.now
+    c.in-Some.state c.deref.ensures.value c.in-Some.ensures)
 
 pub returns-in-Some-first_unmarked : goal.returns-in-Some-first_unmarked
-returns-in-Some-first_unmarked c =
-    let found = c.in-Some-first_unmarked.ensures in
-    IsBreak-missed c.args.inner.now c.requires.keeps c.requires.rooted On c.in_ok-on.on.items
-    c.in-Some-first_unmarked.state c.in_ok-on.ensures found.0
-    (ap (λ (xs : List Bool). slice_index_or xs c.in-Some-first_unmarked.state false) (sym c.deref-2.ensures.value)
-    ∙ found.1)
+returns-in-Some-first_unmarked c = IsBreak-missed c.args.inner.now c.requires.keeps c.requires.rooted On
+    c.in_ok-on.on.items c.in-Some-first_unmarked.state c.in_ok-on.ensures (missed c.args.inner.now.part.now
+    c.in_ok-on.on.items c.deref-2.result.now c.in-Some-first_unmarked.state c.deref-2.ensures.value
+    c.in-Some-first_unmarked.ensures)
 
 pub returns : goal.returns
 returns c =

@@ -1,7 +1,7 @@
 use Rattle.std.proofs.Common.{◌≡◌, ◌+◌, ℕ, true, false, List, arith, refl, sym, ◌∙◌, subst}
 use Rattle.std.specs.Prelude.{slice_index, slice_index_or}
 use Rattle.trap_sets.specs.inside.Breaking.{IsSplit}
-use Rattle.trap_sets.proofs.Splitting.{IsSplit-stays, IsSplit-moves, KeepsEnds-split, IsRooted-split, rootless-split}
+use Rattle.trap_sets.proofs.Splitting.{IsSplit-stays, IsSplit-moves, KeepsEnds-split, IsRooted-split, roots-split}
 use Rattle.trap_sets.proofs.breaking.split_off.Goals as goal
 use Rattle.trap_sets.proofs.breaking.split_off.Goals.{then-part-place+then-not-marks-place, else-part-place}
 use Rattle.trap_sets.proofs.breaking.split_off.Goals.{else-part-place-via-then-part-place+else-not-marks-place}
@@ -46,8 +46,8 @@ returns-clause-rooted c = IsRooted-split c.args.cut.now.question.now c.args.cut.
     c.requires.breaks (omega (arith, c.loop-place-test.false, c.loop-place.invariant.split.many))
     c.loop-place.invariant.split
 
-pub returns-clause-fewer : goal.returns-clause-fewer
-returns-clause-fewer c = rootless-split c.args.cut.now.question.now c.args.cut.now.replies.now c.args.part.now
+pub returns-clause-more : goal.returns-clause-more
+returns-clause-more c = roots-split c.args.cut.now.question.now c.args.cut.now.replies.now c.args.part.now
     c.args.marks.now c.args.state c.loop-place.place c.loop-place.part c.requires.keeps c.requires.rooted
     c.requires.breaks (omega (arith, c.loop-place-test.false, c.loop-place.invariant.split.many))
     c.loop-place.invariant.split
