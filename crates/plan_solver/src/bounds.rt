@@ -6,8 +6,8 @@ ghost use Rattle.predecessors.specs.Lists.{ArePredecessors};
 ghost use Rattle.plan_solver.specs.Tables.{IsTableOrNone};
 
 use crate::approach::{Approach, NONE};
+use crate::end_components::{find_end_components, open_components};
 use crate::frame::{Frame, is_open};
-use crate::groups::{end_components, open_components};
 use crate::lower::lower_component;
 use crate::replies::improve_replies;
 use crate::upper::{Start, upper_component};
@@ -181,11 +181,18 @@ fn upper_turn(
     ensures table { length table.new ≡ length table.old }
     ensures replies { length replies.new ≡ length replies.old }
 {
-    let groups = end_components(alloc, frame, replies)?;
+    let end_components = find_end_components(alloc, frame, replies)?;
     for component in first..frame.components.count() {
         if is_open_component(frame, component) {
             upper_component(
-                alloc, frame, component, &groups, start, table, replies, node_of,
+                alloc,
+                frame,
+                component,
+                &end_components,
+                start,
+                table,
+                replies,
+                node_of,
             )?;
         }
     }

@@ -3,11 +3,11 @@
 ghost use Rattle.std.specs.Prelude.{◌≡◌, ◌<◌, length};
 ghost use Rattle.game_model.specs.Query.{states};
 ghost use Rattle.predecessors.specs.Lists.{ArePredecessors};
-ghost use Rattle.play_components.specs.Division.{states_of};
+ghost use Rattle.components.specs.Division.{states_of};
 
 use crate::approach::Approach;
+use components::Components;
 use game_model::{Marks, Question};
-use play_components::Components;
 use predecessors::Predecessors;
 
 /// A question with its components.

@@ -14,8 +14,8 @@
 mod approach;
 mod bounds;
 mod edges;
+mod end_components;
 mod frame;
-mod groups;
 mod lower;
 mod replies;
 mod upper;

@@ -5,8 +5,8 @@ ghost use Rattle.game_model.specs.Query.{states};
 
 use crate::approach::NONE;
 use crate::edges::{add_edges, draft_of};
+use crate::end_components::EndComponents;
 use crate::frame::Frame;
-use crate::groups::Groups;
 use crate::lower::{clear_nodes, note, numbers, place_nodes};
 use crate::replies::is_played;
 use float_games::{Bound, Draft, FloatGame};
@@ -31,7 +31,7 @@ pub struct Start<'a> {
 #[derive(Drop)]
 struct Shape<'a> {
     nodes: &'a [u32],
-    groups: &'a Groups,
+    end_components: &'a EndComponents,
     planned: &'a [u32],
     replies: &'a [u32],
 }
@@ -49,7 +49,7 @@ pub(crate) fn upper_component(
     alloc: Global,
     frame: &Frame<'_, '_>,
     component: u32,
-    groups: &Groups,
+    end_components: &EndComponents,
     start: &Start<'_>,
     upper: &mut UnitTable,
     replies: &mut [u32],
@@ -70,10 +70,10 @@ pub(crate) fn upper_component(
         return Ok(());
     }
     give_up(frame, component, upper);
-    let nodes = nodes_of_members(alloc, frame, component, groups)?;
+    let nodes = nodes_of_members(alloc, frame, component, end_components)?;
     let shape = Shape {
         nodes: &nodes,
-        groups,
+        end_components,
         planned: start.planned,
         replies,
     };
@@ -118,25 +118,25 @@ fn nodes_of_members(
     alloc: Global,
     frame: &Frame<'_, '_>,
     component: u32,
-    groups: &Groups,
+    end_components: &EndComponents,
 ) -> Result<Vec<u32>, OutOfMemory>
     requires { component + 1 < length frame.now.components.now.starts }
 {
     let members = frame.components.members(component);
-    if groups.are_alone() {
+    if end_components.are_alone() {
         return numbers(alloc, members.len());
     }
     let mut leads = vec![in alloc; 0u32; members.len()]?;
     let mut next: u32 = 0;
     for (place, state) in members.iter().enumerate() {
-        if groups.lead_of(*state) == *state {
+        if end_components.lead_of(*state) == *state {
             note(&mut leads, u32::try_from(place).unwrap_or(u32::MAX), next);
             next = next.saturating_add(1);
         }
     }
     let mut nodes = Vec::with_capacity(alloc, members.len())?;
     for state in members {
-        let lead = groups.lead_of(*state);
+        let lead = end_components.lead_of(*state);
         nodes.push(node_of(frame, component, &leads, lead))?;
     }
     Ok(nodes)
@@ -190,7 +190,7 @@ fn local_game(
     let mut draft = draft_of(alloc, question, members)?;
     let mut policy = Vec::with_capacity(alloc, members.len())?;
     for state in members {
-        if *state < question.game().states() && shape.groups.lead_of(*state) == *state {
+        if *state < question.game().states() && shape.end_components.lead_of(*state) == *state {
             let first = add_group(
                 question,
                 shape,
@@ -223,7 +223,7 @@ fn add_group(
 ) -> Result<u32, OutOfMemory>
     requires { lead < states question.now }
 {
-    let is_merged = shape.groups.next_of(lead) != NONE;
+    let is_merged = shape.end_components.next_of(lead) != NONE;
     let mut first = u32::try_from(draft.choices()).unwrap_or(0);
     let mut state = lead;
     for _ in 0..most {
@@ -235,7 +235,7 @@ fn add_group(
         )? {
             first = planned;
         }
-        state = shape.groups.next_of(state);
+        state = shape.end_components.next_of(state);
     }
     draft.end_node(is_merged || question.side(lead) == Side::Max)?;
     Ok(first)
@@ -258,7 +258,7 @@ fn add_state(
     let row = question.row(state);
     let mut planned = None;
     for choice in 0..row.choices() {
-        let is_inner = is_merged && shape.groups.hold(question, state, choice);
+        let is_inner = is_merged && shape.end_components.hold(question, state, choice);
         if !is_inner && is_played(question, shape.replies, state, choice) {
             add_edges(&row, choice, node_of, upper.entries(), draft)?;
             let number = u32::try_from(draft.choices()).unwrap_or(0);

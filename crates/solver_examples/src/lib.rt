@@ -7,10 +7,10 @@
 #[cfg(test)]
 mod chains;
 #[cfg(test)]
-mod components;
-#[cfg(test)]
 mod games;
 #[cfg(test)]
 mod rows;
+#[cfg(test)]
+mod search;
 #[cfg(test)]
 mod tables;

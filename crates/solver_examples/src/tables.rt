@@ -3,15 +3,15 @@
 ghost use Rattle.std.specs.Prelude.{◌≡◌, ◌+◌, ◌<◌, IfOk, length, vec_len};
 ghost use Rattle.game_model.specs.Game.{choices_of};
 ghost use Rattle.game_model.specs.Query.{states};
-ghost use Rattle.play_components.specs.Division.{states_of};
+ghost use Rattle.components.specs.Division.{states_of};
 
 use crate::games::solved;
 use crate::rows::finished;
+use components::Components;
 use fixed_bellman::{down_state, up_state};
 use float_games::{Bound, Draft, FloatGame};
 use game_model::{Game, Question, Side, UNIT};
 use local_values::refine;
-use play_components::Components;
 use predecessors::{ChoiceFlags, Predecessors};
 use sample_games::expectations::{holds, same};
 use sample_games::{Draw, Shape, game_of, question_of, random_game};

@@ -2,11 +2,11 @@
 
 ghost use Rattle.std.specs.Prelude.{◌≡◌, ◌+◌, ◌<◌, length};
 ghost use Rattle.game_model.specs.Query.{states};
-ghost use Rattle.play_components.specs.Division.{states_of};
+ghost use Rattle.components.specs.Division.{states_of};
 
+use components::Components;
 use float_games::{Bound, FloatGame};
 use game_model::Question;
-use play_components::Components;
 use predecessors::Predecessors;
 
 /// A component of a question, and the local game that its values come from.

@@ -8,8 +8,8 @@ ghost use Rattle.trap_sets.specs.inside.Parts.{IsInner};
 ghost use Rattle.trap_sets.specs.inside.OfCut.{states_in};
 
 use crate::cut::Cut;
+use components::component_numbers;
 use game_outside::OutOfMemory;
-use play_components::component_numbers;
 use predecessors::ChoiceFlags;
 use std::alloc::Global;
 

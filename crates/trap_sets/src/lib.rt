@@ -18,7 +18,7 @@
 //! The traps are found by rounds. A choice is inner where all its successors are in the part of its state; one part of
 //! all states that are neither goal nor dead is the first. A round takes their part from states that have no inner
 //! choice, and from those that have none left then, divides each part into the strongly connected components of its
-//! inner choices (`play_components`), and looks for a part of which a state does not come to a root of the part, or the
+//! inner choices (`components`), and looks for a part of which a state does not come to a root of the part, or the
 //! root not to it, by the choices that are inner then; where there is one it breaks it up (Fleischer, Hendrickson and
 //! Pinar, On identifying strongly connected components in parallel, 2000), and another round follows. So in the end the
 //! states of each part reach each other, and a state without an inner choice is alone (Baier and Katoen, Principles of

@@ -1,0 +1,186 @@
+//! The end components that are left to the maximiser where the minimiser plays its replies.
+
+ghost use Rattle.std.specs.Prelude.{◌≡◌, ◌<◌, IfOk, length, vec_len};
+ghost use Rattle.game_model.specs.Game.{choices_of};
+ghost use Rattle.game_model.specs.Query.{states};
+ghost use Rattle.components.specs.Division.{states_of};
+
+use crate::approach::NONE;
+use crate::frame::{Frame, is_open};
+use crate::lower::note;
+use components::Components;
+use game_model::{Marks, Question, Side};
+use game_outside::OutOfMemory;
+use predecessors::ChoiceFlags;
+use std::alloc::Global;
+use trap_sets::{TrapSets, traps_over};
+
+/// The states of each end component, in a row.
+#[derive(Drop)]
+pub struct EndComponents {
+    /// For each state the first one of its end component; empty where every state is alone.
+    leads: Vec<u32>,
+    /// For each state the next one of its end component, or `NONE`.
+    nexts: Vec<u32>,
+}
+
+impl EndComponents {
+    /// Every state alone.
+    fn alone(alloc: Global) -> EndComponents {
+        EndComponents {
+            leads: Vec::new(alloc),
+            nexts: Vec::new(alloc),
+        }
+    }
+
+    /// The states of each trap, in this order, and behind them those that it lacks by their numbers.
+    fn of_traps(
+        alloc: Global,
+        traps: &TrapSets,
+        order: &[u32],
+    ) -> Result<EndComponents, OutOfMemory> {
+        let states = traps.of.len();
+        let mut end_components = EndComponents {
+            leads: vec![in alloc; NONE; states]?,
+            nexts: vec![in alloc; NONE; states]?,
+        };
+        let mut last = vec![in alloc; NONE; traps.count as usize + 1]?;
+        for state in order {
+            end_components.place(traps, *state, &mut last);
+        }
+        for place in 0..states {
+            end_components.place(traps, u32::try_from(place).unwrap_or(NONE), &mut last);
+        }
+        Ok(end_components)
+    }
+
+    /// Gives a state its place behind the last one of its trap.
+    fn place(&mut self, traps: &TrapSets, state: u32, last: &mut [u32]) {
+        if self.leads.get(state as usize).copied() != Some(NONE) {
+            return;
+        }
+        let trap = traps.of.get(state as usize).copied().unwrap_or(0);
+        let mut lead = state;
+        if trap != 0 {
+            if let Some(before) = last.get_mut(trap as usize) {
+                if *before != NONE {
+                    lead = self.lead_of(*before);
+                    note(&mut self.nexts, *before, state);
+                }
+                *before = state;
+            }
+        }
+        note(&mut self.leads, state, lead);
+    }
+
+    /// Whether every state is known to be alone.
+    pub(crate) fn are_alone(&self) -> bool {
+        self.leads.is_empty()
+    }
+
+    /// The first state of a state's end component.
+    pub(crate) fn lead_of(&self, state: u32) -> u32 {
+        self.leads.get(state as usize).copied().unwrap_or(state)
+    }
+
+    /// The next state of a state's end component, or `NONE`.
+    pub(crate) fn next_of(&self, state: u32) -> u32 {
+        self.nexts.get(state as usize).copied().unwrap_or(NONE)
+    }
+
+    /// Whether a choice stays in the end component of its state.
+    pub(crate) fn hold(&self, question: &Question, state: u32, choice: u32) -> bool
+        requires state { state < states question.now }
+        requires choice { choice < length (choices_of question.now.game state) }
+    {
+        question.known();
+        let game = question.game();
+        let own = self.lead_of(state);
+        for place in 0..game.edge_count(state, choice) {
+            if self.lead_of(game.edge(state, choice, place).to) != own {
+                return false;
+            }
+        }
+        true
+    }
+}
+
+/// The end components of the open states where the minimiser plays its replies: the traps of the question in which all
+/// others are dead. Mostly no choice can stay for ever, and nothing is searched. The only error is want of memory.
+pub(crate) fn find_end_components(
+    alloc: Global,
+    frame: &Frame<'_, '_>,
+    replies: &[u32],
+) -> Result<EndComponents, OutOfMemory>
+    requires { length replies.now ≡ states frame.now.question.now }
+{
+    if !has_free_choice(frame) {
+        return Ok(EndComponents::alone(alloc));
+    }
+    let posed = open_question(alloc, frame)?;
+    let played = played(alloc, replies)?;
+    let traps = traps_over(alloc, &posed, frame.predecessors, &played)?;
+    if traps.count == 0 {
+        return Ok(EndComponents::alone(alloc));
+    }
+    EndComponents::of_traps(alloc, &traps, &frame.approach.order)
+}
+
+/// The question without goals in which each state is dead whose value is 1 or 0.
+fn open_question<'q>(alloc: Global, frame: &Frame<'_, 'q>) -> Result<Question<'q>, OutOfMemory>
+    ensures { IfOk result (λ posed. posed.game ≡ frame.now.question.now.game) }
+{
+    frame.question.known();
+    let states = frame.question.game().states();
+    let goals = vec![in alloc; false; states as usize]?;
+    let mut sides = Vec::with_capacity(alloc, states as usize)?;
+    let mut closed = Vec::with_capacity(alloc, states as usize)?;
+    for state in 0..states {
+        sides.push(frame.question.side(state))?;
+        closed.push(!is_open(frame.sure, frame.zero, state))?;
+    }
+    Ok(Question::build(frame.question.game(), sides, goals, closed))
+}
+
+/// The replies, as those of a plan.
+fn played(alloc: Global, replies: &[u32]) -> Result<Vec<Option<u32>>, OutOfMemory>
+    ensures { IfOk result (λ list. vec_len list ≡ length replies.now) }
+{
+    let mut list = Vec::with_capacity(alloc, replies.len())?;
+    for reply in replies {
+        list.push(Some(*reply))?;
+    }
+    Ok(list)
+}
+
+/// Whether the maximiser has more than one choice at a state whose value is neither 1 nor 0. Without that nobody can
+/// stay in a component for ever, since all its values would be 0.
+fn has_free_choice(frame: &Frame<'_, '_>) -> bool {
+    for state in 0..frame.question.game().states() {
+        if is_open(frame.sure, frame.zero, state)
+            && frame.question.side(state) == Side::Max
+            && frame.question.game().choices_of(state) > 1
+        {
+            return true;
+        }
+    }
+    false
+}
+
+/// The components of the states whose value is neither 1 nor 0; each other state is one of its own.
+pub(crate) fn open_components(
+    alloc: Global,
+    question: &Question,
+    sure: &Marks,
+    zero: &Marks,
+    order: &[u32],
+) -> Result<Components, OutOfMemory>
+    requires sure { length sure.now ≡ states question.now }
+    requires zero { length zero.now ≡ states question.now }
+    ensures { IfOk result (λ c. states_of c ≡ states question.now) }
+{
+    let open = ChoiceFlags::of_game(alloc, question.game(), |state, _choice| {
+        is_open(sure, zero, state)
+    })?;
+    Components::of_question(alloc, question, &open, order)
+}
