@@ -98,8 +98,8 @@ impl Components {
     }
 }
 
-/// For each state the number of its component, as [`Components::of_question`] finds it, without the lists of members. All
-/// are below the number of states. The only error is want of memory.
+/// For each state the number of its component, as [`Components::of_question`] finds it, without the lists of members.
+/// Each number is below the number of states. The only error is want of memory.
 pub fn component_numbers<K: Keeps>(
     alloc: Global,
     question: &Question,

@@ -108,6 +108,8 @@ IsRooted-named part component names class n k = record {
       ∙ sym named;
   least = λ s. elim (cases_lt s n) [
     | inl below ↦ k.least s below
-    | inr past ↦ let e : slice_index class s ≤ s + 1 = omega (arith, get_or_past class s 0 (omega (arith, past, k.many))) in e
+    | inr past ↦
+        let e : slice_index class s ≤ s + 1 = omega (arith, get_or_past class s 0 (omega (arith, past, k.many))) in
+        e
   ];
 }

@@ -48,7 +48,9 @@ roots-most part zero = omega arith
 roots-most part (suc n) = omega (arith, roots-most part n, (one-more part n).1)
 
 pub roots-rise : (part : List ℕ) (n more : ℕ) → roots_below part n ≤ roots_below part (n + more)
-roots-rise part n zero = let e : n + 0 ≡ n = omega arith in subst (λ m. roots_below part n ≤ roots_below part m) (sym e) (omega arith)
+roots-rise part n zero =
+    let e : n + 0 ≡ n = omega arith in
+    subst (λ m. roots_below part n ≤ roots_below part m) (sym e) (omega arith)
 roots-rise part n (suc more) =
     let e : n + suc more ≡ suc (n + more) = omega arith in
     subst (λ m. roots_below part n ≤ roots_below part m) (sym e)

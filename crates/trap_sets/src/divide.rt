@@ -54,7 +54,8 @@ fn name_all(
     Ok(())
 }
 
-/// The name of a state's component: one more than the first state of it that has a part. A state without a part has none.
+/// The name of a state's component: one more than the first state of it that has a part. A state without a part has no
+/// name.
 fn name_of(component: &[u32], part: &[u32], state: u32, names: &mut [u32]) -> u32
     requires many { length component.now ≡ length part.now }
     requires state { state < length part.now }

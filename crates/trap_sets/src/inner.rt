@@ -46,7 +46,8 @@ impl<'a> Inner<'a> {
     /// For each state the number of its component over the inner choices.
     pub fn components(&self, alloc: Global) -> Result<Vec<u32>, OutOfMemory>
         ensures many { IfOk result (λ l. length l.items ≡ states_of self.now) }
-        ensures below { IfOk result (λ l. (s : ℕ) → s < states_of self.now → slice_index l.items s < states_of self.now) }
+        ensures below { IfOk result (λ l. (s : ℕ) → s < states_of self.now
+            → slice_index l.items s < states_of self.now) }
         ensures order { IfOk result (λ l. (s d t : ℕ) → s < states_of self.now → IsInnerOf self.now s d
             → LeadsOf self.now s d t → slice_index l.items t ≤ slice_index l.items s) }
     {

@@ -15,19 +15,22 @@
 //! Not promised: a table is lowered once, by exits over the table handed in, so it may be lowered further by a
 //! second call or by steps; how near it comes to the values no clause says. Other replies have other traps.
 //!
-//! The traps are found by rounds. A choice is inner where all its successors are in the part of its state; one part of
-//! all states that are neither goal nor dead is the first. A round takes their part from states that have no inner
-//! choice, and from those that have none left then, divides each part into the strongly connected components of its
-//! inner choices (`components`), and looks for a part of which a state does not come to a root of the part, or the
-//! root not to it, by the choices that are inner then; where there is one it breaks it up (Fleischer, Hendrickson and
-//! Pinar, On identifying strongly connected components in parallel, 2000), and another round follows. So in the end the
-//! states of each part reach each other, and a state without an inner choice is alone (Baier and Katoen, Principles of
-//! Model Checking, 2008, algorithm 47).
+//! The traps are found in rounds, over parts of the states. The first part has all states that are neither goal nor
+//! dead. A choice is inner if all its successors are in the part of its state. A round takes three steps:
 //!
-//! The first two steps are made by searches of which no proof says that they find all: what they do is tested, state by
-//! state, and no end component is cut. The third one is exact, and decides. A round takes time linear in the states,
-//! choices and edges. There are as many rounds as sets break up one within another, and most often one; a chain or a
-//! walk of any length takes one more, since removal goes on backward at once. The time is no part of the contract.
+//! 1. It takes their part from the states that have no inner choice, and from those that have none left then.
+//! 2. It divides each part into the strongly connected components of its inner choices (`components`).
+//! 3. It searches from the root of each part, by the choices that are inner then, back and on. If one of the searches
+//!    misses a state of the part, the part is broken up there, and another round follows (Fleischer, Hendrickson and
+//!    Pinar, On identifying strongly connected components in parallel, 2000).
+//!
+//! In the end the states of each part reach each other, and a state without an inner choice is alone in its part (Baier
+//! and Katoen, Principles of Model Checking, 2008, algorithm 47).
+//!
+//! No proof says that the searches of the first two steps find all; it says that they cut no end component. The third
+//! step is exact, and decides. A round takes time linear in the states, choices and edges. There are as many rounds as
+//! sets that break up one within another, and most often there is one. A chain or a walk of any length takes one more,
+//! because removal goes on backward at once. The time is no part of the contract.
 #![tactic(auto)]
 
 mod arena;

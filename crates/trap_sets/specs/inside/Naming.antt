@@ -5,7 +5,8 @@ use Rattle.std.specs.Prelude.{◌≡◌, ◌≢◌, ℕ, ◌+◌, ◌-◌, ◌<�
 pub record IsNaming (part component names class : List ℕ) (n : ℕ) : Type 0 where
   pub many : length class ≡ n
   pub out : (s : ℕ) → s < n → slice_index part s ≡ 0 → slice_index class s ≡ 0
-  pub named : (s : ℕ) → s < n → slice_index part s ≢ 0 → slice_index class s ≡ slice_index names (slice_index component s)
+  pub named : (s : ℕ) → s < n → slice_index part s ≢ 0
+      → slice_index class s ≡ slice_index names (slice_index component s)
   pub least : (s : ℕ) → s < n → slice_index class s ≤ s + 1
   pub given : (s : ℕ) → s < n → slice_index part s ≢ 0 → slice_index class s ≢ 0
   pub known : (p : ℕ) → slice_index names p ≢ 0 → slice_index class (slice_index names p - 1) ≡ slice_index names p
