@@ -194,6 +194,10 @@ pub record AreCommand (words : List Text) (command : Command) : Type 0 where
   pub words_are : words ≡ name_of command ∷ rest
   pub behind : AreWordsOf command rest
 
+-- these words denote a command
+abbrev pub DenoteCommand : List Text → Type 0
+DenoteCommand words = (command : Command) × AreCommand words command
+
 -- these words denote no command
 abbrev pub AreNoCommand : List Text → Type 0
 AreNoCommand words = (command : Command) → AreCommand words command → ⊥

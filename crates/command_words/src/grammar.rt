@@ -51,6 +51,27 @@ pub fn make_command<'a>(alloc: Global) -> Result<Command<'a>, AllocError>
     with_run_limits(alloc, command)
 }
 
+/// The words of `check`, with any words for its numbers.
+pub fn check_with_any_numbers<'a>(alloc: Global) -> Result<Command<'a>, AllocError> {
+    with_any_limits(alloc, asked_command(alloc, "check")?)?
+        .arg(flag(alloc, "plan"))?
+        .arg(flag(alloc, "traps"))
+}
+
+/// The words of `make`, with any words for its numbers.
+pub fn make_with_any_numbers<'a>(alloc: Global) -> Result<Command<'a>, AllocError> {
+    let command = bare_command(alloc, "make")
+        .arg(positional(alloc, "seed"))?
+        .arg(positional(alloc, "states"))?;
+    with_any_limits(alloc, command)
+}
+
+fn with_any_limits<'a>(alloc: Global, command: Command<'a>) -> Result<Command<'a>, AllocError> {
+    command
+        .arg(option(alloc, "rounds"))?
+        .arg(option(alloc, "workers"))
+}
+
 // A command of this name that asks a question.
 fn asked_command<'a>(alloc: Global, name: &'a str) -> Result<Command<'a>, AllocError>
     ensures { IfOk result (λ command. app_of command ≡ asked_app name.entry.now) }

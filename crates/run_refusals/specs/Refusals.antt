@@ -186,4 +186,4 @@ refusal_text (TooLong text) = refused_line text 0 (codes "TooLong")
 
 -- the line that a run writes when its words denote no command
 abbrev pub usage_text : List ℕ
-usage_text = codes "usage: stogame check TRA LAB FORMULA [--own FILE] [--rounds R] [--workers W] [--plan] [--traps] | audit TRA LAB FORMULA CERT [--own FILE] | solve TRA LAB FORMULA [--own FILE] [--values FILE] [--plan] | make SEED STATES [--rounds R] [--workers W] | sure TRA LAB FORMULA [--own FILE]\n"
+usage_text = codes "usage: stogame check TRA LAB FORMULA [--own FILE] [--rounds R] [--workers W] [--plan] [--traps] | audit TRA LAB FORMULA CERT [--own FILE] | make SEED STATES [--rounds R] [--workers W] | sure TRA LAB FORMULA [--own FILE]\n"

@@ -158,6 +158,6 @@ pub fn usage_line(alloc: Global) -> Result<String, AllocError>
 {
     String::from_str(
         alloc,
-        "usage: stogame check TRA LAB FORMULA [--own FILE] [--rounds R] [--workers W] [--plan] [--traps] | audit TRA LAB FORMULA CERT [--own FILE] | solve TRA LAB FORMULA [--own FILE] [--values FILE] [--plan] | make SEED STATES [--rounds R] [--workers W] | sure TRA LAB FORMULA [--own FILE]\n",
+        "usage: stogame check TRA LAB FORMULA [--own FILE] [--rounds R] [--workers W] [--plan] [--traps] | audit TRA LAB FORMULA CERT [--own FILE] | make SEED STATES [--rounds R] [--workers W] | sure TRA LAB FORMULA [--own FILE]\n",
     )
 }

@@ -1,14 +1,17 @@
 //! The program: the words, the files and the standard output of the system, handed to `run`.
 //!
-//! Where a run writes nothing, or not all of it, one line on standard error says why. Nothing else ever goes there.
+//! Where the words are no command, and where a run writes nothing, or not all of it, one line on standard error says
+//! why. Nothing else ever goes there.
 #![tactic(auto)]
 
+use command_words::refused_words;
 use game_outside::OpenGate;
+use std::alloc::Global;
 use std::process::ExitCode;
 use std::rt::Files;
 use std::{env, io};
 use stogame_app::{Status, run};
-use system_files::{Failure, FileShelf, OutSink};
+use system_files::{Failure, FileShelf, OneLine, OutSink};
 
 /// The status where the system hands over no words.
 const NO_WORDS: u8 = 9;
@@ -26,6 +29,7 @@ fn main(rt: HostRuntime) -> ExitCode {
     let mut out = OutSink::new(io::writer(&rt));
     let status = run(&rt, alloc, &words, &mut shelf, &mut out, &OpenGate {});
     match status {
+        Status::Usage => say_refused(&rt, alloc, &words),
         Status::ReadFault => say_unread(&rt, &shelf),
         Status::WriteFault => say_unwritten(&rt, out.failure()),
         Status::OutOfMemory => say_out_of_memory(&rt),
@@ -53,9 +57,20 @@ fn say_out_of_memory(rt: &impl Eprint) {
     let _ = eprintln!(rt; "stogame: out of memory");
 }
 
+// What is wrong with words that are no command, and which commands there are.
+fn say_refused(rt: &impl Eprint, alloc: Global, words: &[String]) {
+    let told = refused_words(alloc, words);
+    let message = match &told {
+        Ok(Some(message)) => message.as_str(),
+        _ => "these words are no command",
+    };
+    let line = OneLine(message);
+    let _ = eprintln!(rt; "stogame: {line}; commands: check, audit, solve, make, sure");
+}
+
 // Which file was not read, and why.
 fn say_unread(rt: &impl Eprint, shelf: &FileShelf<impl Files>) {
-    let name = shelf.name().unwrap_or("a file");
+    let name = OneLine(shelf.name().unwrap_or("a file"));
     let _ = match shelf.failure() {
         Some(reason) => eprintln!(rt; "stogame: cannot read {name}: {reason}"),
         None => eprintln!(rt; "stogame: cannot read {name}"),

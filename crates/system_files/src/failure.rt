@@ -6,32 +6,45 @@ ghost use Rattle.std.specs.IoError.{error_kind};
 use std::fmt::{self, Display, Formatter};
 use std::io::{self, ErrorKind};
 
-/// The kind of failure that the system gave as its reason.
+/// Why a call failed: what the system gave as its reason, or words of this crate's own.
 #[derive(Clone, Copy, Debug, Drop)]
 pub struct Failure {
-    kind: ErrorKind,
+    error: io::Error,
 }
 
 impl Failure {
     /// The reason of a failed call.
     pub fn of(error: &io::Error) -> Failure
-        ensures { result.kind ≡ error_kind error.now }
+        ensures { result.error ≡ error.now }
     {
-        Failure { kind: error.kind() }
+        Failure { error: *error }
     }
 
     /// A failure of this kind.
     pub fn of_kind(kind: ErrorKind) -> Failure
-        ensures { result.kind ≡ kind }
+        ensures { error_kind result.error ≡ kind }
     {
-        Failure { kind }
+        Failure {
+            error: io::Error::from(kind),
+        }
+    }
+
+    /// A text is asked for once more that may be gone, as that of a pipe.
+    pub fn read_twice() -> Failure
+        ensures { error_kind result.error ≡ ErrorKind.Other }
+    {
+        Failure {
+            error: io::Error::other("it is no file that can be read twice"),
+        }
     }
 }
 
 impl Display for Failure {
     fn fmt<W: fmt::Write>(&self, f: &mut Formatter<W>) -> fmt::Result {
-        match self.kind {
+        match self.error.kind() {
             ErrorKind::NotFound => f.write_str("no such file or directory"),
+            // A reason that has no name of its own is told in the words of the system.
+            ErrorKind::Other | ErrorKind::Uncategorized => Display::fmt(&self.error, f),
             kind => Display::fmt(&kind, f),
         }
     }

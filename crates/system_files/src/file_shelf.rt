@@ -6,7 +6,7 @@ ghost use Rattle.std.specs.String.{string_bytes};
 use crate::failure::Failure;
 use game_outside::{Failed, Shelf};
 use std::alloc::Global;
-use std::fs::File;
+use std::fs::{self, File};
 use std::io::Read;
 use std::rt::Files;
 
@@ -59,6 +59,25 @@ impl<'a, R: Files> FileShelf<'a, R> {
     }
 }
 
+// The file of this name, open. One that was read before has to be regular: the text of another, as a pipe, may be gone.
+fn open<R: Files>(rt: &R, name: &str, again: bool) -> Result<R::File, Failure> {
+    if again && !is_regular(rt, name) {
+        return Err(Failure::read_twice());
+    }
+    match File::open(rt, name) {
+        Ok(file) => Ok(file),
+        Err(error) => Err(Failure::of(&error)),
+    }
+}
+
+// Whether a name is that of a regular file, as far as the system tells.
+fn is_regular(rt: &impl Files, name: &str) -> bool {
+    match fs::metadata(rt, name) {
+        Ok(metadata) => metadata.is_file(),
+        Err(_) => false,
+    }
+}
+
 impl<'a, R: Files> Shelf for FileShelf<'a, R> {
     ghost held = { λ s. None };
 
@@ -71,16 +90,17 @@ impl<'a, R: Files> Shelf for FileShelf<'a, R> {
     ghost steady = { λ s. false };
 
     fn begin(&mut self, name: &str) -> Result<(), Failed> {
+        let again = self.name() == Some(name);
         self.taken = 0;
         self.file = None;
         self.name = String::from_str(self.alloc, name).ok();
-        match File::open(self.rt, name) {
+        match open(self.rt, name, again) {
             Ok(file) => {
                 self.file = Some(file);
                 Ok(())
             }
-            Err(error) => {
-                self.failure = Some(Failure::of(&error));
+            Err(failure) => {
+                self.failure = Some(failure);
                 self.faults = self.faults.saturating_add(1);
                 Err(Failed {})
             }

@@ -2,13 +2,16 @@
 //! trusted edge.
 //!
 //! [`FileShelf`] and [`OutSink`] keep what `game_outside` asks of each shelf and each sink, and tell nothing of the
-//! bytes. Each remembers why its last call failed, for a line on standard error; no clause speaks of that.
+//! bytes. Each remembers why its last call failed, for a line on standard error; no clause speaks of that. What is no
+//! regular file, as a pipe, is not begun twice in a row.
 #![tactic(auto)]
 
 mod failure;
 mod file_shelf;
+mod one_line;
 mod out_sink;
 
 pub use failure::Failure;
 pub use file_shelf::FileShelf;
+pub use one_line::OneLine;
 pub use out_sink::OutSink;

@@ -5,6 +5,7 @@ ghost use Rattle.text_lines.specs.Limits.{most_bytes};
 ghost use Rattle.text_lines.specs.Text.{lines_of};
 ghost use Rattle.values_reader.specs.Answers.{Answers};
 ghost use Rattle.values_reader.specs.Faults.{counted, fault_in_order};
+ghost use Rattle.values_reader.specs.Values.{AreProbabilities, IsProbability};
 
 use crate::fault::{ValuesCause, ValuesEnd};
 use crate::lines::next_line;
@@ -13,8 +14,11 @@ use std::alloc::{AllocError, Global};
 
 // A value goes behind the others, unless there are as many as states.
 fn push_within(values: &mut Vec<f64>, states: u32, value: f64) -> Result<(), AllocError>
-    requires { length values.old.items ≤ states }
-    ensures { OnOk result (length values.new.items ≡ min (length values.old.items + 1) states) }
+    requires few { length values.old.items ≤ states }
+    requires before { AreProbabilities values.old.items }
+    requires bounds { IsProbability value }
+    ensures sizes { OnOk result (length values.new.items ≡ min (length values.old.items + 1) states) }
+    ensures bounds { OnOk result (AreProbabilities values.new.items) }
 {
     if values.len() < states as usize {
         values.push(value)?;
@@ -27,6 +31,7 @@ pub fn read_in_order(alloc: Global, text: &[u8], states: u32) -> Result<Vec<f64>
     requires { length text.now ≤ most_bytes }
     ensures exact { Answers (fault_in_order states (counted 1 (lines_of text.now))) result }
     ensures sizes { IfOk result (λ values. length values.items ≡ states) }
+    ensures bounds { IfOk result (λ values. AreProbabilities values.items) }
 {
     let mut values = Vec::new(alloc);
     let mut count = 0;

@@ -8,8 +8,8 @@
 //! let values = read_values(alloc, &bytes, game.states())?;
 //! ```
 //!
-//! `specs/Lines.antt` says what a line is, and `specs/Faults.antt` which fault a text has. Nothing is promised of the
-//! entries but that there is one for each state: a caller takes them as hints.
+//! `specs/Lines.antt` says what a line is, `specs/Faults.antt` which fault a text has, and `specs/Values.antt` what the
+//! entries are. Of an entry nothing is promised but that it is a number from 0 to 1: a caller takes it as a hint.
 #![tactic(auto)]
 
 mod fault;

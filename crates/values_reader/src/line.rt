@@ -1,8 +1,9 @@
 //! A state and a number.
 
-ghost use Rattle.std.specs.Prelude.{◌≡◌, ◌∷◌, Some, None, MatchOption, option_map};
+ghost use Rattle.std.specs.Prelude.{◌≡◌, ◌∷◌, Some, None, MatchOption, IfSome, option_map};
 ghost use Rattle.text_lines.specs.Text.{fields_of, saturated};
 ghost use Rattle.values_reader.specs.Lines.{is_mark, is_closed, is_valuation, one_state, split_last, state_before, state_of, without_brackets};
+ghost use Rattle.values_reader.specs.Values.{IsProbability};
 
 use crate::number::value_in;
 use text_lines::{first_field, split_at_first, whole};
@@ -93,7 +94,9 @@ fn state_in(bytes: &[u8]) -> Option<u64>
 
 /// The state of a line that is a state and a number, and the number as a value from 0 to 1.
 pub fn state_and_value(line: &[u8]) -> Option<(u64, f64)>
-    ensures { MatchOption result (state_of line.now ≡ None) (λ r. option_map saturated (state_of line.now) ≡ Some r.0) }
+    ensures state { MatchOption result (state_of line.now ≡ None)
+        (λ r. option_map saturated (state_of line.now) ≡ Some r.0) }
+    ensures bounds { IfSome result (λ r. IsProbability r.1) }
 {
     let Some((front, back)) = split_at_last_mark(line) else {
         return None;

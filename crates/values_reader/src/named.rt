@@ -6,6 +6,7 @@ ghost use Rattle.text_lines.specs.Text.{lines_of};
 ghost use Rattle.values_reader.specs.Answers.{Answers};
 ghost use Rattle.values_reader.specs.Faults.{counted, fault_of_named, marked, new_state, with_state};
 ghost use Rattle.values_reader.specs.Lines.{state_of};
+ghost use Rattle.values_reader.specs.Values.{AreProbabilities, IsProbability};
 
 use crate::fault::{ValuesCause, ValuesEnd};
 use crate::line::state_and_value;
@@ -20,6 +21,7 @@ struct NamedValues {
     values: Vec<f64>,
     ghost marks: { length named.items ≡ states },
     ghost entries: { length values.items ≡ states },
+    ghost bounds: { AreProbabilities values.items },
 }
 
 impl NamedValues {
@@ -39,7 +41,8 @@ impl NamedValues {
 
     // The state has this value.
     fn put(&mut self, state: u32, value: f64)
-        requires { state < self.old.states }
+        requires inside { state < self.old.states }
+        requires bounds { IsProbability value }
         ensures named { (other : ℕ) → marked self.new.named.items other
             ≡ with_state state (marked self.old.named.items) other }
         ensures states { self.new.states ≡ self.old.states }
@@ -56,6 +59,7 @@ fn new_entry(states: u32, named: &[bool], line: &[u8]) -> Result<(u32, f64), Val
         (λ r. new_state states (marked named.now) (state_of line.now) ≡ Ok r.0)
         (λ cause. new_state states (marked named.now) (state_of line.now) ≡ Err cause) }
     ensures inside { IfOk result (λ r. r.0 < states) }
+    ensures bounds { IfOk result (λ r. IsProbability r.1) }
 {
     let Some((state, value)) = state_and_value(line) else {
         return Err(ValuesCause::BadField);
@@ -74,6 +78,7 @@ pub fn read_named(alloc: Global, text: &[u8], states: u32) -> Result<Vec<f64>, V
     requires { length text.now ≤ most_bytes }
     ensures exact { Answers (fault_of_named states (λ state. false) (counted 1 (lines_of text.now))) result }
     ensures sizes { IfOk result (λ values. length values.items ≡ states) }
+    ensures bounds { IfOk result (λ values. AreProbabilities values.items) }
 {
     let Ok(mut table) = NamedValues::new(alloc, states) else {
         return Err(ValuesEnd::OutOfMemory);

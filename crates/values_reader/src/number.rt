@@ -3,6 +3,7 @@
 ghost use Rattle.std.specs.Prelude.{◌≡◌, ◌==◌, ◌<◌, Some, None, MatchOption, IfSome, is_some, position, length};
 ghost use Rattle.text_lines.specs.Text.{fields_of};
 ghost use Rattle.values_reader.specs.Lines.{is_fraction, is_number, is_value};
+ghost use Rattle.values_reader.specs.Values.{IsProbability};
 
 use text_lines::{first_field, split_at_first, whole};
 
@@ -35,8 +36,10 @@ fn number(field: &[u8]) -> Option<f64>
 }
 
 // From 0 to 1: what is above counts as 1, and what is below, or no number, as 0.
-fn bounded(value: f64) -> f64 {
-    if value >= 1.0 {
+fn bounded(value: f64) -> f64
+    ensures { IsProbability result }
+{
+    if value > 1.0 {
         1.0
     } else if value > 0.0 {
         value
@@ -47,7 +50,8 @@ fn bounded(value: f64) -> f64 {
 
 /// The number that is the one field of some bytes, as a value from 0 to 1.
 pub fn value_in(bytes: &[u8]) -> Option<f64>
-    ensures { is_some result ≡ is_value bytes.now }
+    ensures spelled { is_some result ≡ is_value bytes.now }
+    ensures bounds { IfSome result IsProbability }
 {
     let Some((field, rest)) = first_field(bytes) else {
         return None;
@@ -55,5 +59,8 @@ pub fn value_in(bytes: &[u8]) -> Option<f64>
     if first_field(rest).is_some() {
         return None;
     }
-    number(field).map(bounded)
+    match number(field) {
+        Some(value) => Some(bounded(value)),
+        None => None,
+    }
 }

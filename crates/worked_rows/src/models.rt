@@ -45,4 +45,4 @@ pub const OF_THREE_STATES: &str =
 
 /// What words that denote no command report.
 pub const USAGE: &str =
-    "usage: stogame check TRA LAB FORMULA [--own FILE] [--rounds R] [--workers W] [--plan] [--traps] | audit TRA LAB FORMULA CERT [--own FILE] | solve TRA LAB FORMULA [--own FILE] [--values FILE] [--plan] | make SEED STATES [--rounds R] [--workers W] | sure TRA LAB FORMULA [--own FILE]\n";
+    "usage: stogame check TRA LAB FORMULA [--own FILE] [--rounds R] [--workers W] [--plan] [--traps] | audit TRA LAB FORMULA CERT [--own FILE] | make SEED STATES [--rounds R] [--workers W] | sure TRA LAB FORMULA [--own FILE]\n";
