@@ -21,7 +21,4 @@ def call_tool(name, *words):
             ended(name, loaded(name).main)
         except SystemExit as end:
             status = end.code
-    if isinstance(status, str):
-        print(status, file=errors)
-        status = 1
     return status or 0, output.getvalue(), errors.getvalue()

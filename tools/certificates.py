@@ -8,7 +8,9 @@ import re
 from array import array
 from collections import namedtuple
 
-from explicit import Refusal, open_bytes, shown
+from endings import Refusal, tell
+from explicit import open_bytes, shown
+from formula_words import Asked, spelt_plainly
 
 UNIT = 10**15
 DECIMALS = {b"1": 12, b"2": 15}
@@ -37,6 +39,32 @@ def read_certificate(name):
         if line.split()[:1] == [b"certificate"]:
             return entries_of(name, formula, number, lines)
     raise Refusal(name, None, "no line begins with 'certificate'")
+
+
+def certificate_said(tool, name, formula):
+    """The certificate of a file, said of this formula, or where it is None of the file's own, and what this asks, if
+    there is one. Of `G`, whose dual the certificate is of, it is mirrored, which the tool tells."""
+    found = read_certificate(name)
+    text = formula or found.formula
+    asked = Asked(text) if text else None
+    if asked and asked.always:
+        tell(tool, f"{name}: the certificate is of the dual of {text}; here its bounds are 1 less and exchanged, and so "
+                   "are maximiser and minimiser")
+        found = mirrored(found)
+    return found._replace(formula=text and spelt_plainly(text)), asked
+
+
+def mirrored(certificate):
+    """What a certificate says of the formula of which its own is the dual.
+
+    A lower bound is 1 less the upper one, and the replies of the minimiser are the choices of the maximiser.
+    """
+    return certificate._replace(
+        lower=array("q", (UNIT - bound for bound in certificate.upper)),
+        upper=array("q", (UNIT - bound for bound in certificate.lower)),
+        choices=certificate.replies,
+        replies=certificate.choices,
+    )
 
 
 def entries_of(name, formula, first, lines):

@@ -1,6 +1,7 @@
 """Choices by number and by the name of their action, as the lines of a transition file have it."""
 
-from explicit import Refusal, field_blocks, shown
+from endings import Refusal
+from explicit import field_blocks, shown
 
 
 class ChoiceNames:

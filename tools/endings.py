@@ -1,21 +1,90 @@
-"""How a tool ends: a refusal is one line on standard error, and where nobody reads on it ends without a word."""
+"""How a tool begins and ends: its words, its status, and the one line on standard error where it has no answer.
 
-import signal
+The statuses are those of `stogame`, which docs/COMMANDS.md lists.
+"""
+
+import argparse
+import errno
+import os
 import sys
 
-from explicit import Refusal
+WORDS, REFUSED, UNREAD, UNWRITTEN = 3, 4, 5, 6
+
+OUTPUT = "the output"
+
+
+class Ending(Exception):
+    """Why there is no answer: the status, and the text of the line that says it."""
+
+    def __init__(self, status, text):
+        super().__init__(text)
+        self.status = status
+
+
+class Refusal(Ending):
+    """A text that can't be used: its name, the line, or None where no line is to blame, and the cause."""
+
+    def __init__(self, name, line, cause, status=REFUSED):
+        place = name if line is None else f"{name}: line {line}"
+        super().__init__(status, f"{place}: {cause}")
+        self.line, self.cause = line, cause
+
+
+def unread(name, error):
+    return Ending(UNREAD, f"cannot read {name}: {cause_of(error)}")
+
+
+def unwritten(name, error):
+    return Ending(UNWRITTEN, f"cannot write {name}: {cause_of(error)}")
+
+
+def cause_of(error):
+    """What the system says, in the words of the program."""
+    if error.errno == errno.ENOSPC:
+        return "no storage space"
+    return (error.strerror or str(error)).lower()
+
+
+class Words(argparse.ArgumentParser):
+    """The words of a tool, whose text of help begins with its document. Where they are wrong the status is 3."""
+
+    def __init__(self, name, document):
+        super().__init__(prog=name, description=document, formatter_class=argparse.RawDescriptionHelpFormatter)
+
+    def error(self, message):
+        raise Ending(WORDS, f"{message}; {self.prog} --help says more")
+
+    def add_question(self, optional=False):
+        """The model and what is asked of it."""
+        for name, text in (("tra", "the transition file"), ("lab", "the label file"), ("formula", "what is asked")):
+            self.add_argument(name, metavar=name.upper(), nargs="?" if optional else None, help=text)
+
+    def add_files(self, **helps):
+        """Options that each name a file, with what it is."""
+        for option, text in helps.items():
+            self.add_argument(f"--{option}", metavar="FILE", help=text)
+
+
+def tell(name, text):
+    """A line on standard error."""
+    print(f"{name}: {text}", file=sys.stderr)
 
 
 def ended(name, work):
-    """Does the work of a tool of this name, and ends with its status, 0 where it gives none;
-    with 1 where something is refused."""
-    if hasattr(signal, "SIGPIPE"):
-        signal.signal(signal.SIGPIPE, signal.SIG_DFL)
+    """Does the work of a tool of this name, and ends with its status, 0 where it gives none."""
     try:
         status = work()
         sys.stdout.flush()
-    except Refusal as refusal:
-        status = f"{name}: {refusal}"
+    except Ending as ending:
+        tell(name, ending)
+        status = ending.status
     except OSError as error:
-        status = f"{name}: {error.filename or 'output'}: {error.strerror}"
+        tell(name, unwritten(error.filename or OUTPUT, error))
+        status = UNWRITTEN
+        drop_output()
     sys.exit(status)
+
+
+def drop_output():
+    """Lets go of what standard output did not take, which would fail once more at the end."""
+    os.dup2(os.open(os.devnull, os.O_WRONLY), sys.stdout.fileno())

@@ -11,11 +11,12 @@ edges of choice c those from edge_start[c] to edge_start[c + 1].
 import operator
 import os
 import re
-import signal
 import tempfile
 from array import array
 from collections import namedtuple
 from math import gcd, lcm
+
+from endings import OUTPUT, Refusal, unread, unwritten
 
 MOST_STATES = 1_000_000
 MOST_CHOICES = 16_384
@@ -29,6 +30,10 @@ SUM_TOLERANCE = 100_000
 # totals below this number have weights that fit a list of 64-bit numbers
 NARROW = 1 << 62
 
+# how compressed files begin
+COMPRESSED = {b"\x1f\x8b": "gzip (.gz)", b"\xfd7zXZ\0": "xz (.xz)"}
+MOST_MAGIC = max(map(len, COMPRESSED))
+
 BLOCK_BYTES = 1 << 18
 MOST_REMEMBERED = 1 << 18
 
@@ -37,18 +42,6 @@ PLAYER_NAME = re.compile(rb"[A-Za-z_][A-Za-z0-9_]{0,254}\Z")
 HEADER_ITEM = re.compile(rb'([0-9]+)="([^"]*)"\Z')
 DECIMAL = re.compile(rb"([0-9]+)(?:\.([0-9]*))?(?:[eE]([+-]?[0-9]{1,3}))?\Z")
 FRACTION = re.compile(rb"([0-9]+)/([0-9]+)\Z")
-
-
-class Refusal(Exception):
-    """Input that can't be used: the name of the file, the line, or None where no line is to blame, and the cause."""
-
-    def __init__(self, name, line, cause):
-        super().__init__(name, line, cause)
-        self.name, self.line, self.cause = name, line, cause
-
-    def __str__(self):
-        place = self.name if self.line is None else f"{self.name}: line {self.line}"
-        return f"{place}: {self.cause}"
 
 
 def shown(field):
@@ -61,10 +54,17 @@ def shown(field):
 
 
 def open_bytes(name):
+    """A file to be read, which is not compressed."""
     try:
-        return open(name, "rb")
+        file = open(name, "rb")
+        first = file.peek(MOST_MAGIC)
     except OSError as error:
-        raise Refusal(name, None, f"can't be read: {error.strerror}") from error
+        raise unread(name, error) from error
+    for magic, compressor in COMPRESSED.items():
+        if first.startswith(magic):
+            file.close()
+            raise Refusal(name, 1, f"the file is compressed by {compressor}; unpack it first")
+    return file
 
 
 def field_blocks(name):
@@ -101,7 +101,7 @@ def write_files(texts):
         for temporary, name in written:
             os.replace(temporary, name)
     except OSError as error:
-        raise Refusal(error.filename or "output", None, f"can't be written: {error.strerror}") from error
+        raise unwritten(name, error) from error
     finally:
         for temporary, _ in written:
             if os.path.exists(temporary):
@@ -129,18 +129,12 @@ def write_output(data):
         while data:
             data = data[os.write(1, data) :]
     except OSError as error:
-        raise Refusal("standard output", None, f"can't be written: {error.strerror}") from error
+        raise unwritten(OUTPUT, error) from error
 
 
 def header_line(names):
     """The first line of a label or owner file, in which these names have the indices 0, 1 and so on."""
     return " ".join(f'{index}="{name.decode("ascii")}"' for index, name in enumerate(names)) + "\n"
-
-
-def end_with_the_reader():
-    """From here on the program ends without a word where nobody reads on, as before `| head`."""
-    if hasattr(signal, "SIGPIPE"):
-        signal.signal(signal.SIGPIPE, signal.SIG_DFL)
 
 
 # Probabilities
@@ -608,7 +602,7 @@ class Parser:
 
     def path(self):
         if self.is_word("X", "G"):
-            self.fail(f"{self.token} is not read yet")
+            self.fail(f"{self.token} is not read here")
         if self.is_word("F"):
             self.move()
             self.refuse_steps()
@@ -620,7 +614,7 @@ class Parser:
 
     def refuse_steps(self):
         if self.is_sign("<="):
-            self.fail("a bound on steps is not read yet")
+            self.fail("a bound on the steps is not read here")
 
     def implied(self):
         return self.chained(self.either, "=>")
@@ -645,7 +639,7 @@ class Parser:
         if self.is_word("true", "false"):
             return (self.take("word"),)
         if self.is_word("P", "Pmax", "Pmin") or self.is_sign("<<"):
-            self.fail("a formula within a formula is not read yet")
+            self.fail("a formula inside a formula is not read here")
         return ("label", self.take("name"))
 
     def nested(self, sign):

@@ -1,6 +1,7 @@
 """Formulas of certificates: read with their thresholds and with `G`, whose moves they are, and in words."""
 
 import re
+from collections import namedtuple
 from fractions import Fraction
 
 import explicit
@@ -8,6 +9,22 @@ import explicit
 DUAL = {">=": "<=", ">": "<", "<=": ">=", "<": ">", "Pmax": "Pmin", "Pmin": "Pmax"}
 SIGNS = {">=": "at least", ">": "more than", "<=": "at most", "<": "less than"}
 JOINTS = {"&": "and", "|": "or", "=>": "implies"}
+
+
+Question = namedtuple("Question", "coalition bound threshold left right")
+
+
+def plainly(formula):
+    """A state formula without double negations."""
+    kind, *parts = formula
+    if kind == "!" and parts[0][0] == "!":
+        return plainly(parts[0][1])
+    return (kind, *(plainly(part) if isinstance(part, tuple) else part for part in parts))
+
+
+def spelt_plainly(text):
+    """The text of a formula without double negations, as that of a dual has them."""
+    return re.sub(r'("[^"]*")|!\s*!\s*', lambda found: found[1] or "", text)
 
 
 class Asked(explicit.Parser):
@@ -34,10 +51,17 @@ class Asked(explicit.Parser):
         return ("true",), self.implied()
 
     def sides(self, owners):
-        """A byte for each state, 1 where the maximiser moves:
-        of `G` in the question of its dual, as a certificate has it."""
-        bound = DUAL[self.bound_sign] if self.always else self.bound_sign
-        return explicit.sides_of(explicit.Formula(self.coalition_names, bound, self.left, self.right), owners)
+        """A byte for each state, 1 where the maximiser of this formula moves."""
+        return explicit.sides_of(explicit.Formula(self.coalition_names, self.bound_sign, self.left, self.right), owners)
+
+    def certified(self):
+        """What a certificate of this formula is of: the question itself, or of `G` its dual."""
+        coalition = None if self.coalition_names is None else frozenset(self.coalition_names)
+        threshold = None if self.threshold is None else Fraction(self.threshold)
+        if not self.always:
+            return Question(coalition, self.bound_sign, threshold, plainly(self.left), plainly(self.right))
+        threshold = None if threshold is None else 1 - threshold
+        return Question(coalition, DUAL[self.bound_sign], threshold, ("true",), plainly(("!", self.right)))
 
     def words(self):
         """The question as a sentence. For nobody's coalition all strategies are the others'."""

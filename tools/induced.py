@@ -1,6 +1,7 @@
 """Strategies, and the models that they induce: at each state of one side one choice is left, at the others all are."""
 
-from explicit import Refusal, field_blocks, open_bytes, write_files
+from endings import Refusal
+from explicit import field_blocks, open_bytes, write_files
 
 
 def total_choices(moves, members):

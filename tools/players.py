@@ -1,6 +1,7 @@
 """Players as the ways in name them, and the lines of an owner file."""
 
 import argparse
+import re
 
 from explicit import PLAYER_NAME, header_line
 
@@ -21,11 +22,18 @@ def player_name(value, names, variable=b""):
     return (variable or (b"p" if value[:1].isdigit() else b"")) + value
 
 
-def owner_lines(owners):
-    """The lines of an owner file of a map from states to names of players.
+def owner_lines(owners, names):
+    """The lines of an owner file of a map from states to names of players, in the order of the values that have names.
     States left out belong to the first player."""
-    players = sorted(set(owners.values()), key=lambda player: (len(player), player)) or [b"p0"]
+    values = {name: value for value, name in names.items()}
+    players = sorted(set(owners.values()), key=lambda player: place_of(values.get(player, player))) or [b"p0"]
     numbers = {player: number for number, player in enumerate(players)}
     yield header_line(players)
     for state in sorted(owners):
         yield f"{state}: {numbers[owners[state]]}\n"
+
+
+def place_of(value):
+    """What a value is sorted by: the number at its end, if it has one, and then its text."""
+    number = re.search(rb"[0-9]*\Z", value)[0]
+    return int(number or 0), len(value), value

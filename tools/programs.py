@@ -6,7 +6,7 @@ import subprocess
 from collections import namedtuple
 from pathlib import Path
 
-from explicit import Refusal
+from endings import UNREAD, Refusal, cause_of
 
 TOOLS = Path(__file__).resolve().parent
 BUILT = TOOLS.parent / "crates" / "stogame" / "out" / "stogame"
@@ -19,11 +19,15 @@ def program():
     for path in (os.environ.get("STOGAME"), shutil.which("stogame"), BUILT):
         if path and os.access(path, os.X_OK):
             return str(path)
-    raise Refusal("stogame", None, "no program: ./stogame builds it, or name one by STOGAME")
+    raise Refusal("stogame", None, "no program: ./stogame builds it, or name one by STOGAME", UNREAD)
 
 
 def run(*words):
-    ended = subprocess.run(list(map(str, words)), capture_output=True, text=True, stdin=subprocess.DEVNULL, check=False)
+    words = list(map(str, words))
+    try:
+        ended = subprocess.run(words, capture_output=True, text=True, stdin=subprocess.DEVNULL, check=False)
+    except OSError as error:
+        raise Refusal(words[0], None, f"it does not run: {cause_of(error)}", UNREAD) from error
     return Ended(ended.returncode, ended.stdout, ended.stderr)
 
 
@@ -38,13 +42,16 @@ def certificate_by(asker, question):
     workers = ["--workers", "1"] if command == "check" else []
     ended = run(program(), command, *question, "--plan", *options, *workers)
     if "certificate " not in ended.output:
-        raise Refusal(asker, None, first_line(ended))
+        raise Refusal(asker, None, first_line(ended), ended.status)
     return ended.output
 
 
 def audited(question, name):
-    """The run of an audit of a certificate file."""
-    return run(program(), "audit", *question[:3], name, *question[3:])
+    """The run of an audit that accepts a certificate file."""
+    ended = run(program(), "audit", *question[:3], name, *question[3:])
+    if " audited " not in ended.output:
+        raise Refusal(name, None, first_line(ended), ended.status)
+    return ended
 
 
 def first_line(ended):
@@ -54,7 +61,10 @@ def first_line(ended):
 
 
 def answered_by(asker, question):
-    """The run whose output is a report on a question; of `check` where another command does not take the formula."""
+    """Who answers a question, and the run whose output is the report; `check` where another one does not take the
+    formula."""
     command, *options = ASKERS[asker]
     ended = run(program(), command, *question, *options)
-    return run(program(), "check", *question) if ended.output.endswith("WrongKind\n") else ended
+    if ended.output.endswith("WrongKind\n"):
+        return "check", run(program(), "check", *question)
+    return asker, ended

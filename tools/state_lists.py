@@ -3,7 +3,8 @@
 import re
 from collections import namedtuple
 
-from explicit import Refusal, open_bytes
+from endings import Refusal
+from explicit import open_bytes
 
 HEADER = re.compile(r"\(([^()]*)\)\Z")
 LINE = re.compile(r"([0-9]+)\s*:\s*\(([^()]*)\)\Z")

@@ -3,7 +3,8 @@
 import json
 import re
 
-from explicit import Refusal, open_bytes
+from endings import Refusal
+from explicit import open_bytes
 
 LINE = re.compile(r"(?:([0-9]+)|\(([^()]*)\))\s*[:=\s]\s*(\S+)\Z")
 

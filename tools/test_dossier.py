@@ -5,8 +5,9 @@ import os
 import shutil
 import unittest
 from pathlib import Path
+from unittest import mock
 
-from calls import call_tool
+from calls import call_tool, loaded
 from formula_words import Asked
 from trials import TOOLS, InFolder, needs_program, program, run
 
@@ -55,7 +56,7 @@ class Dossiers(InFolder):
 
     def test_what_it_has(self):
         lines = self.text.splitlines()
-        self.assertEqual(lines[0], "dossier 1")
+        self.assertEqual(lines[0], "dossier 2")
         for kind, name in zip(("tra", "lab", "own"), self.files):
             content = Path(name).read_bytes()
             self.assertIn(
@@ -65,13 +66,42 @@ class Dossiers(InFolder):
         self.assertIn(f"program sha256 {hashlib.sha256(content).hexdigest()} bytes {len(content)}", lines)
         self.assertIn(f"question {SENTENCES[4][1]}", lines)
         self.assertIn("state 0 lower 0.650000000000000 upper 0.650000000000000 audited True", lines)
-        kit = next(line for line in lines if line.startswith("kit rattle"))
-        self.assertIn(f"`{kit[4:]}`", (TOOLS.parent / "README.md").read_text())
+        self.assertRegex(self.text, r"\nsources (unknown|commit [0-9a-f]+ (clean|changed))\nkit \S")
 
     def test_it_is_a_certificate(self):
         status, output, _ = run(program(), "audit", *self.words[:3], self.name, *self.words[3:])
         self.assertEqual((status, output.split()[-1]), (0, "True"))
         self.assertIn("\n0,p1,0.65", call_tool("table", self.name, "--csv", "--own", self.files[2])[1])
+
+    def test_a_script_is_no_program(self):
+        script = self.write("script", f'#!/bin/sh\nexec {program()} "$@"\n')
+        script.chmod(0o755)
+        with mock.patch.dict(os.environ, STOGAME=str(script)):
+            status, output, errors = call_tool("dossier", *self.words)
+        self.assertEqual((status, output), (4, ""))
+        self.assertIn(f"{script}: a script", errors)
+
+    def test_behind_the_wrapper_is_what_was_built(self):
+        dossier = loaded("dossier")
+        with mock.patch.dict(os.environ, STOGAME=str(TOOLS.parent / "stogame")):
+            self.assertEqual(dossier.program_file(), dossier.programs.BUILT)
+
+    def test_the_logic_of_the_kit(self):
+        """It is compared where both are known; commit, state and the kit's name are recorded alone."""
+        start = self.text.index("\nsources ")
+        for filed, today, status, said in (
+            ("kit 1 logic ab", "kit 2 logic ab", 0, "the kit's logic is the same"),
+            ("kit 1 logic ab", "kit 1 logic ac", 1, "the logic of the kit is ac today"),
+            ("kit unknown", "kit 1 logic ac", 0, "the kit was not compared"),
+            ("kit 1 logic ab", "kit unknown", 0, "the kit was not compared"),
+        ):
+            with self.subTest(filed=filed, today=today):
+                rest = self.text[self.text.index("\nlines ") :]
+                name = self.write("filed", f"{self.text[:start]}\nsources commit 0 changed\n{filed}{rest}")
+                with mock.patch.object(loaded("dossier"), "provenance", lambda: ["sources unknown", today]):
+                    ended, output, errors = call_tool("dossier", "--verify", name)
+                self.assertEqual(ended, status)
+                self.assertIn(said, output + errors)
 
     def test_it_is_verified(self):
         status, output, errors = call_tool("dossier", "--verify", self.name)
@@ -81,27 +111,32 @@ class Dossiers(InFolder):
         other.mkdir()
         for name in self.files:
             shutil.move(name, other)
-        self.assertEqual(call_tool("dossier", "--verify", self.name)[0], 1)
+        self.assertEqual(call_tool("dossier", "--verify", self.name)[0], 5)
         self.assertEqual(call_tool("dossier", "--verify", self.name, "--folder", other)[0], 0)
 
     def test_changes_are_told(self):
-        """Each line but those of the certificate, changed in turn; of the certificate the first bound."""
+        """Each line but those of the certificate and those that are recorded alone, changed, left out and doubled in
+        turn, is told once; and of the certificate the first bound."""
         lines = self.text.split("\n")
         start = next(place for place, line in enumerate(lines) if line.startswith("certificate "))
         for place in range(1, start):
-            if not lines[place].startswith("formula "):
+            if not lines[place].startswith(("formula ", "sources ", "kit ", "tra ", "lab ", "own ")):
                 with self.subTest(line=lines[place]):
-                    self.refused([*lines[:place], lines[place] + "x", *lines[place + 1 :]])
-        self.refused(["dossier 2", *lines[1:]])
-        self.refused([line.replace("0.650000000000000 1", "0.650000000000001 1") for line in lines])
-        self.refused([line.replace("P>=0.6", "P>=0.7") for line in lines])
-        self.refused(lines[:start])
+                    for instead in ([lines[place] + "x"], [], [lines[place]] * 2):
+                        errors = self.refused(1, [*lines[:place], *instead, *lines[place + 1 :]])
+                        self.assertEqual(errors.count("\n"), 1, errors)
+        self.refused(4, ["dossier 1", *lines[1:]])
+        self.refused(4, [line for line in lines if not line.startswith("kit ")])
+        self.refused(8, [line.replace("0.650000000000000 1", "0.650000000000001 1") for line in lines])
+        self.refused(1, [line.replace("P>=0.6", "P>=0.7") for line in lines])
+        self.refused(4, lines[:start])
 
-    def refused(self, lines):
+    def refused(self, ended, lines):
         name = self.write("changed", "\n".join(lines))
         status, output, errors = call_tool("dossier", "--verify", name)
-        self.assertEqual((status, output), (1, ""))
+        self.assertEqual((status, output), (ended, ""), errors)
         self.assertTrue(errors.startswith("dossier: "), errors)
+        return errors
 
     def test_a_changed_file_is_told(self):
         self.write("two_players.lab", '0="init" 1="goal"\n0: 0\n2:  1\n')
@@ -111,17 +146,34 @@ class Dossiers(InFolder):
 
     def test_given_certificates(self):
         cert = self.write("cert", "\n".join(self.text.splitlines()[-5:]) + "\n")
-        self.assertEqual(call_tool("dossier", *self.words, "--cert", cert)[1], self.text)
+        self.assertEqual(call_tool("dossier", *self.words, "--cert", cert), (0, self.text, ""))
         self.assertEqual(call_tool("dossier", *self.words, "--by", "solve")[0], 0)
         cert = self.write("cert", "certificate 2 4\n")
         self.assertEqual(
             call_tool("dossier", *self.words, "--cert", cert),
-            (1, "", f"dossier: {cert}: refused cert line 2 MissingLine\n"),
+            (8, "", f"dossier: {cert}: refused cert line 2 MissingLine\n"),
         )
+
+    def test_what_a_certificate_says_of_itself(self):
+        """Its own formula and lines are compared with those that are filed; the words for how it was made are not."""
+        certificate = "\n".join(self.text.splitlines()[-5:]) + "\n"
+        line = "state 0 lower 0.650000000000000 upper 0.650000000000000 rounds 1 True"
+        for head, said in (
+            (f'{line}\nformula <<p1>> P>=3/5 [ true U !!"goal" ]\n', []),
+            ('formula <<p1>> P>=4/5 [ F "goal" ]\n', ["line 1: 'formula <<p1>> P>=4/5 [ F \"goal\" ]' is another"]),
+            (line.replace("True", "False") + "\n", ["line 1: 'state 0 lower"]),
+            (line.replace("0.65", "0.64") + "\nformula x\n", ["line 1: 'state 0 lower", "line 2: 'formula x'"]),
+        ):
+            with self.subTest(head=head):
+                cert = self.write("cert", head + certificate)
+                status, output, errors = call_tool("dossier", *self.words, "--cert", cert)
+                self.assertEqual((status, output, errors.count("\n")), (0, self.text, len(said)))
+                for text in said:
+                    self.assertIn(f"dossier: {cert}: {text}", errors)
 
     def test_no_certificate_no_dossier(self):
         status, output, errors = call_tool("dossier", *self.files[:2], 'Pmax=? [ X "goal" ]')
-        self.assertEqual((status, output, errors), (1, "", "dossier: check: refused question line 0 WrongKind\n"))
+        self.assertEqual((status, output, errors), (4, "", "dossier: check: refused question line 0 WrongKind\n"))
 
 
 if __name__ == "__main__":

@@ -5,7 +5,7 @@ from collections import Counter
 from fractions import Fraction
 
 import explicit
-from explicit import Refusal
+from endings import Refusal
 from trials import InFolder
 
 COIN = "3 3 5\n0 0 0 0.5\n0 0 1 0.25\n0 0 2 0.25\n1 0 1 1\n2 0 2 1\n"
@@ -86,9 +86,9 @@ REFUSED_FORMULAS = [
     ("", "place 0: the formula ends before P or Pmax or Pmin"),
     ("Pmax=?", "place 6: the formula ends before ["),
     ('Pmax=? [ F "goal" ] x', "place 20: more behind the formula"),
-    ('Pmax=? [ F<=3 "goal" ]', "place 10: a bound on steps is not read yet"),
-    ('Pmax=? [ X "goal" ]', "place 9: X is not read yet"),
-    ('Pmax=? [ F P>0.5 [ F "a" ] ]', "place 11: a formula within a formula is not read yet"),
+    ('Pmax=? [ F<=3 "goal" ]', "place 10: a bound on the steps is not read here"),
+    ('Pmax=? [ X "goal" ]', "place 9: X is not read here"),
+    ('Pmax=? [ F P>0.5 [ F "a" ] ]', "place 11: a formula inside a formula is not read here"),
     ('P>=1.5 [ F "a" ]', "place 3: threshold '1.5': above 1"),
     ('P>= [ F "a" ]', "place 4: '[' in place of a number"),
     ('Pmax=? [ F "" ]', "place 11: no token of a formula"),

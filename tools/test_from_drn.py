@@ -1,10 +1,11 @@
 """Models of Storm's explicit format, turned into PRISM's explicit files."""
 
 import contextlib
+import gzip
 import io
 import unittest
 
-from explicit import Refusal
+from endings import Refusal
 from trials import SAMPLES, InFolder, load, needs_program, program, run, run_tool
 
 DIE = {
@@ -125,6 +126,9 @@ REFUSED = [
     ("game", "state 1 <1>", "state 1 <-1>", "state 1", "'-1' can't be a player: neither a number nor a name"),
 ]
 
+# the rewards that samples have
+REWARDS = {"die": "coin_flips", "choices": "steps cost", "exact": "time energy"}
+
 
 def sample(name):
     return (SAMPLES / f"documented_{name}.drn").read_text(encoding="ascii")
@@ -173,10 +177,9 @@ class Documented(InFolder):
                 self.assertIn(old, sample(name))
                 path = self.write("in.drn", sample(name).replace(old, new, 1).replace("@nr_choices\n5\n", ""))
                 told, written = self.convert(path, {})
-                out = str(self.folder / "out")
-                self.assertEqual(
-                    told.replace(out, "OUT"), "".join(f"from_drn: {line}\n" for line in lines.splitlines())
-                )
+                out, rewards = str(self.folder / "out"), REWARDS.get(name)
+                said = [*lines.splitlines(), *([f"rewards are passed over: {rewards}"] if rewards else [])]
+                self.assertEqual(told.replace(out, "OUT"), "".join(f"from_drn: {line}\n" for line in said))
                 self.assertEqual("out.sta" in written, "OUT.sta" not in lines and name in ("die", "link", "exact"))
 
     @needs_program
@@ -218,29 +221,36 @@ class Refused(InFolder):
     def test_status(self):
         name = self.write("bad.drn", "@type: DTMC\n@model\n")
         ended = run_tool("from_drn", name, self.folder / "out")
-        self.assertEqual(ended, (1, "", f"from_drn: {name}: line 2: @model before @type and @nr_states\n"))
+        self.assertEqual(ended, (4, "", f"from_drn: {name}: line 2: @model before @type and @nr_states\n"))
 
     def test_an_empty_file(self):
         name = self.write("empty.drn", "")
-        self.assertEqual(run_tool("from_drn", name, self.folder / "out"), (1, "", f"from_drn: {name}: nothing in it\n"))
+        self.assertEqual(run_tool("from_drn", name, self.folder / "out"), (4, "", f"from_drn: {name}: nothing in it\n"))
+
+    def test_a_compressed_file(self):
+        name = self.folder / "m.drn.gz"
+        name.write_bytes(gzip.compress(b"@type: DTMC\n"))
+        said = f"from_drn: {name}: line 1: the file is compressed by gzip (.gz); unpack it first\n"
+        self.assertEqual(run_tool("from_drn", name, self.folder / "out"), (4, "", said))
 
     def test_words(self):
         status, output, errors = run_tool("from_drn", "--help")
         self.assertEqual((status, errors), (0, ""))
         self.assertIn("from_drn FILE OUT", output)
         status, output, errors = run_tool("from_drn", "model.drn", "out", "--names", "0")
-        self.assertEqual((status, output), (2, ""))
+        self.assertEqual((status, output), (3, ""))
         self.assertIn("'0' is no list of VALUE=NAME", errors)
 
     def test_no_file(self):
         status, output, errors = run_tool("from_drn", self.folder / "none.drn", self.folder / "out")
-        self.assertEqual((status, output), (1, ""))
-        self.assertIn("none.drn: can't be read: No such file or directory", errors)
+        self.assertEqual((status, output), (5, ""))
+        self.assertEqual(errors, f"from_drn: cannot read {self.folder / 'none.drn'}: no such file or directory\n")
 
     def test_a_file_that_can_not_be_written(self):
         status, _, errors = run_tool("from_drn", SAMPLES / "documented_die.drn", self.folder / "none" / "out")
-        self.assertEqual(status, 1)
-        self.assertIn("can't be written", errors)
+        self.assertEqual(status, 6)
+        name = self.folder / "none" / "out.tra"
+        self.assertEqual(errors, f"from_drn: cannot write {name}: no such file or directory\n")
         self.assertEqual(self.written(), {})
 
 

@@ -5,7 +5,7 @@ import io
 import unittest
 from argparse import Namespace
 
-from explicit import Refusal
+from endings import Refusal
 from trials import SAMPLES, InFolder, load, needs_program, program, run, run_tool
 
 STATES = SAMPLES / "documented_states.sta"
@@ -162,7 +162,7 @@ class OwnerFiles(InFolder):
     def test_status(self):
         name = self.write("in", "hello\n")
         status, output, errors = run_tool("owners", self.folder / "out", name)
-        self.assertEqual((status, output), (1, ""))
+        self.assertEqual((status, output), (4, ""))
         self.assertEqual(errors.count("\n"), 2)
         self.assertTrue(errors.endswith("no file says who owns the states; nothing is written\n"))
         status, output, errors = run_tool("owners", "--help")
@@ -171,6 +171,11 @@ class OwnerFiles(InFolder):
         status, _, errors = run_tool("owners", self.folder / "out", STATES, "--turn", "turn", "--names", "1=anna")
         self.assertEqual((status, errors), (0, ""))
         self.assertEqual(self.written()["out.own"], '0="anna" 1="turn2"\n0: 0\n1: 1\n2: 0\n3: 1\n')
+
+    def test_the_order_of_players_is_that_of_their_values(self):
+        for names in ("1=zoe,2=al", "1=al,2=zoe", "2=a"):
+            run_tool("owners", self.folder / "out", STATES, "--turn", "turn", "--names", names)
+            self.assertEqual(self.written()["out.own"].split("\n", 1)[1], "0: 0\n1: 1\n2: 0\n3: 1\n")
 
     @needs_program
     def test_the_program_reads_them(self):

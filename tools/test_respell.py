@@ -4,7 +4,7 @@ import io
 import sys
 import unittest
 
-from explicit import Refusal
+from endings import Refusal
 from trials import SAMPLES, TOOLS, InFolder, load, needs_program, program, run, run_tool
 
 # a spelling, the places to round to, the new spelling, and what it changes by shortening and by rounding
@@ -110,29 +110,29 @@ class Commands(InFolder):
         self.assertIn("respell FILE [--round D]", output)
         for places in ("0", "24", "x", "-1"):
             status, output, errors = run_tool("respell", "m.tra", f"--round={places}")
-            self.assertEqual((status, output), (2, ""))
+            self.assertEqual((status, output), (3, ""))
             self.assertIn(f"'{places}' is no number of places from 1 to 23", errors)
 
     def test_faults(self):
         name = self.write("m.tra", "2 2\n0 1 0.90000000000000002\n1 1 x\n")
-        self.assertEqual(run_tool("respell", name), (1, "", f"respell: {name}: line 3: 'x': no probability\n"))
+        self.assertEqual(run_tool("respell", name), (4, "", f"respell: {name}: line 3: 'x': no probability\n"))
         none = self.folder / "none"
         self.assertEqual(
-            run_tool("respell", none), (1, "", f"respell: {none}: can't be read: No such file or directory\n")
+            run_tool("respell", none), (5, "", f"respell: cannot read {none}: no such file or directory\n")
         )
 
     def test_no_room(self):
         name = self.write("m.tra", "1 1\n0 0 1\n")
         command = f"'{sys.executable}' '{TOOLS / 'respell'}' '{name}' > /dev/full"
-        self.assertEqual(
-            run("bash", "-c", command), (1, "", "respell: standard output: can't be written: No space left on device\n")
-        )
+        self.assertEqual(run("bash", "-c", command), (6, "", "respell: cannot write the output: no storage space\n"))
 
     def test_nobody_reads_on(self):
         lines = "0 0 0 1\n" * 50_000
         name = self.write("m.tra", f"1 1 50000\n{lines}")
         status, output, errors = run("bash", "-c", f"'{sys.executable}' '{TOOLS / 'respell'}' '{name}' | head -n 1")
-        self.assertEqual((status, output, errors), (0, "1 1 50000\n", ""))
+        self.assertEqual(
+            (status, output, errors), (0, "1 1 50000\n", "respell: cannot write the output: broken pipe\n")
+        )
 
     @needs_program
     def test_the_program_reads_them(self):

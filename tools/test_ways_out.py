@@ -33,11 +33,11 @@ certificate 2 4
 3 0.000000000000000 - 0 0.000000000000000 -
 """
 
-TABLE = """state,(turn),(over),owner,labels,lower,upper,mover,choice,action,rank
+TABLE = """state,turn,over,owner,labels,lower,upper,mover,choice,action,rank
 0,1,false,p1,init,0.650000000000000,0.650000000000000,maximiser,1,throw,1
 1,2,false,p2,,0.200000000000000,0.200000000000000,minimiser,1,right,1
-2,1,true,p1,goal,1.000000000000000,1.000000000000000,maximiser,-,-,0
-3,2,true,p1,,0.000000000000000,0.000000000000000,maximiser,-,-,0
+2,1,true,p1,goal,1.000000000000000,1.000000000000000,maximiser,,,0
+3,2,true,p1,,0.000000000000000,0.000000000000000,maximiser,,,0
 """
 
 # options behind the certificate, and what they write of the strategy
@@ -147,8 +147,15 @@ class Small(InFolder):
         plain = call_tool("table", self.cert, *words)[1].splitlines()
         self.assertEqual(
             [line.split() for line in plain],
-            [[field or "-" for field in line.split(",")] for line in TABLE.splitlines()],
+            [
+                [field or "-" for field in line.split(",")]
+                for line in TABLE.replace("turn,over", "(turn),(over)").splitlines()
+            ],
         )
+
+    def test_variables_with_names_of_columns(self):
+        sta = self.write("m.sta", "(lower)\n0:(1)\n1:(2)\n2:(3)\n3:(4)\n")
+        self.assertTrue(call_tool("table", self.cert, "--sta", sta, "--csv")[1].startswith("state,lower_,lower,"))
 
     def test_table_of_a_certificate_alone(self):
         text = call_tool("table", self.cert, "--csv")[1]
@@ -161,14 +168,14 @@ class Small(InFolder):
         text = "certificate 2 1\n0 0.000000000000000 0 0 1.000000000000000 0\n"
         cert, tra, lab = str(self.write("both", text)), self.write("m.tra", "1 1 1\n0 0 0 1\n"), None
         status, output, errors = call_tool("table", cert)
-        self.assertEqual((status, output), (1, ""))
+        self.assertEqual((status, output), (4, ""))
         self.assertEqual(
             errors,
             f"table: {cert}: line 2: state 0 has a choice and a reply, so it takes --formula, and --own of a game, to "
             "say who moves\n",
         )
         self.assertIn("maximiser", call_tool("table", cert, "--formula", 'Pmax=? [ F "a" ]')[1])
-        self.assertIn("minimiser", call_tool("table", cert, "--formula", 'Pmax=? [ G "a" ]')[1])
+        self.assertIn("minimiser", call_tool("table", cert, "--formula", 'Pmin=? [ G "a" ]')[1])
 
     def test_written_strategies(self):
         for options, text in WRITTEN:
@@ -195,7 +202,7 @@ class Small(InFolder):
         cert = self.write("one", "certificate 2 1\n0 0.000000000000000 - 0 0.000000000000000 -\n")
         status, _, errors = call_tool("strategy", cert, "--tra", tra, "--lab", lab, "--induced", self.folder / "m")
         self.assertEqual(
-            (status, errors), (1, f"strategy: {self.folder / 'm'}: this would write over a file of the model\n")
+            (status, errors), (4, f"strategy: {self.folder / 'm'}: this would write over a file of the model\n")
         )
 
     def test_refusals(self):
@@ -203,12 +210,12 @@ class Small(InFolder):
             with self.subTest(cause=cause):
                 cert = str(self.write("changed", text))
                 status, output, errors = call_tool(tool, cert, *words)
-                self.assertEqual((status, output, errors), (1, "", f"{tool}: {cert}: {cause}\n"))
+                self.assertEqual((status, output, errors), (4, "", f"{tool}: {cert}: {cause}\n"))
 
     def test_a_second_action_is_refused(self):
         tra = str(self.write("m.tra", Path(NAMED[0]).read_text().replace("0 1 3 0.35 throw", "0 1 3 0.35 jump")))
         status, _, errors = call_tool("table", self.cert, "--tra", tra)
-        self.assertEqual((status, errors), (1, f"table: {tra}: line 4: state 0 choice 1 has a second action, 'jump'\n"))
+        self.assertEqual((status, errors), (4, f"table: {tra}: line 4: state 0 choice 1 has a second action, 'jump'\n"))
 
     def test_lists_of_states(self):
         for text, cause in (
@@ -233,9 +240,11 @@ class Small(InFolder):
             ),
         )
         ended = run("bash", "-c", f"{sys.executable} {TOOLS / 'table'} {self.folder / 'long'} --csv | head -n 1")
-        self.assertEqual(ended[1:], ("state,lower,upper,mover,choice,rank\n", ""))
+        self.assertEqual(
+            ended[1:], ("state,lower,upper,mover,choice,rank\n", "table: cannot write the output: broken pipe\n")
+        )
         ended = run("bash", "-c", f"{sys.executable} {TOOLS / 'table'} {self.cert} >/dev/full")
-        self.assertEqual(ended, (1, "", "table: output: No space left on device\n"))
+        self.assertEqual(ended, (6, "", "table: cannot write the output: no storage space\n"))
 
 
 @needs_program
