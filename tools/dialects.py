@@ -14,7 +14,7 @@ OPPOSITES = {">=": "<=", ">": "<", "<=": ">=", "<": ">"}
 FAILS = {">=": "<", ">": "<=", "<=": ">", "<": ">="}
 COMPARED = ("=", "!=", "<", "<=", ">", ">=")
 PATHS = ("F", "G", "X", "U", "W", "R")
-FILTERS = {"min", "max", "forall", "exists", "range"}
+FILTERS = {"min", "max", "forall", "exists", "range", "state", "first", "print", "printall"}
 
 TOKEN = re.compile(
     r"""\s*(?:(?P<name>"[!#-~]*")
@@ -49,13 +49,13 @@ NOT_HERE = {
     "multi": "several objectives",
     "C": "cumulative rewards",
     "I": "instantaneous rewards",
-    "label": "a label made of an expression",
+    "label": "a label of this form",
     "formula": "an expression with a name",
 }
 
-Rewritten = namedtuple("Rewritten", "formula negated mirrored")
-Rewritten.__doc__ = """A formula of `stogame`; whether its True is the property's False,
-and its bounds 1 less the property's."""
+Rewritten = namedtuple("Rewritten", "formula negated mirrored states", defaults=[None])
+Rewritten.__doc__ = """A formula of `stogame`; whether its True is the property's False, and its bounds 1 less the
+property's; and the state formula of the states that are asked, or None for the initial ones."""
 
 Atom = namedtuple("Atom", "variable sign value")
 Atom.__doc__ = "A comparison of a variable with a value, as both are written."
@@ -65,9 +65,9 @@ class NoSpelling(Exception):
     """Why a property has no spelling here."""
 
 
-Surroundings = namedtuple("Surroundings", "constants players labels is_chain")
+Surroundings = namedtuple("Surroundings", "constants players labels is_chain defined", defaults=[{}])
 Surroundings.__doc__ = """What a property is read with: the texts of constants by name, the names of all players and
-labels, and whether the model is a Markov chain."""
+labels, whether the model is a Markov chain, and the expressions of further labels by name."""
 
 
 class Rewriter:
@@ -111,18 +111,19 @@ class Rewriter:
         return made
 
     def filtered(self):
-        """A filter over the initial states: there is a line for each of them."""
+        """A filter: there is a line for each of its states, which are all where it names none."""
         self.take("filter")
         self.take("(")
         kind = self.take()
+        if kind not in FILTERS:
+            raise NoSpelling(f"a filter '{kind}': it says nothing of a single state")
         self.take(",")
-        made = self.outermost()
-        states = [self.take(), self.take(), self.take()]
-        if kind not in FILTERS or states != [",", '"init"', ")"]:
-            raise NoSpelling(
-                f"a filter '{kind}', or of other states than \"init\": mark them by the label init, or look at --plan"
-            )
-        return made
+        made, states = self.outermost(), "true"
+        if self.ahead(","):
+            self.take(",")
+            states = self.operand()
+        self.take(")")
+        return made._replace(states=None if states == '"init"' else states)
 
     def outermost(self):
         self.refuse_kinds()
@@ -348,9 +349,21 @@ class Rewriter:
             held = self.state()
             self.take(")")
             return held
+        if kind == "name" and text.strip('"') in set(self.around.defined) - self.around.labels:
+            return self.defined(self.take().strip('"'))
         if kind == "name" or text in ("true", "false"):
             return self.take()
         return self.comparison()
+
+    def defined(self, label):
+        """The expression of a label, in which the label itself is not known."""
+        others = {name: text for name, text in self.around.defined.items() if name != label}
+        inner = Rewriter(self.around.defined[label], self.around._replace(defined=others))
+        state = inner.operand()
+        if inner.tokens[0][0] != "end":
+            raise NoSpelling(f"'{inner.tokens[0][1]}' behind the expression of the label \"{label}\"")
+        self.atoms.update(inner.atoms)
+        return state
 
     def comparison(self):
         """A variable compared with a value, or one that is true: a label of its own."""
@@ -359,6 +372,8 @@ class Rewriter:
             raise NoSpelling(f"'{text}' inside a state formula is LTL")
         if kind != "word":
             raise NoSpelling(f"'{text or 'the end'}' in place of a state formula")
+        if self.ahead("("):
+            raise NoSpelling(f"{text}(..): functions are not read")
         atom = Atom(text, "=", "true")
         if self.ahead(*COMPARED):
             atom = Atom(text, self.take(), self.value())

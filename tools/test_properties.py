@@ -9,7 +9,8 @@ from dialects import NoSpelling, Surroundings, rewritten
 from trials import SAMPLES, TOOLS, InFolder, needs_program, program
 
 EXAMPLES = TOOLS.parent / "examples"
-CHAIN = Surroundings({"N": "5", "p": "0.9"}, ["p0"], {"a", "s_eq_7_and_done"}, True)
+DEFINED = {"bad": 'x>1 | "a"', "a": "x=7", "round": 'x=1 & "round"', "done": "(s=7) & done"}
+CHAIN = Surroundings({"N": "5", "p": "0.9"}, ["p0"], {"a", "s_eq_7_and_done"}, True, DEFINED)
 GAME = Surroundings({}, ["p1", "anna"], {"a"}, False)
 
 # a property of a Markov chain, and the formula here, marked where its True is False or its bounds are 1 less
@@ -44,6 +45,7 @@ REWRITTEN = [
     ('A [ G "a" ]', 'P>=1 [ G "a" ]', ""),
     ('E [ F "a" ]', 'P<=0 [ F "a" ]', "negated"),
     ('filter(forall, P>=0.5 [ F "a" ], "init")', 'P>=0.5 [ F "a" ]', ""),
+    ("P=? [ F bad=1 & \"bad\" ]", 'Pmax=? [ F ("bad=1" & ("x>1" | "a")) ]', ""),
     ("P>=p [ F s=7 & d!=-1 ]", 'P>=0.9 [ F ("s=7" & "d!=-1") ]', ""),
     ("P=? [ F !done ]", 'Pmax=? [ F !"done=true" ]', ""),
     ("P=? [ F s<N ]", 'Pmax=? [ F "s<5" ]', ""),
@@ -69,10 +71,11 @@ REFUSED = [
     ('P>=1 [ F Pmax=? [ F "a" ] ]', "only thresholds stand there"),
     ('A [ F "a" ]', "paths of probability 0 count"),
     ('E [ G "a" ]', "paths of probability 0 count"),
-    ('filter(print, P=? [ F "a" ], "init")', "look at --plan"),
-    ('filter(max, P=? [ F "a" ], "b")', "mark them by the label init"),
+    ('filter(avg, P=? [ F "a" ], "init")', "a filter 'avg': it says nothing of a single state"),
+    ('filter(max, P=? [ F "a" ], "b"', "'the end' in place of ')'"),
+    ("P=? [ F mod(x,2)=0 ]", "mod(..): functions are not read"),
     ("P=? [ F " + "(" * 3000 + '"a"' + ")" * 3000 + " ]", "too many brackets"),
-    ('label "done" = s=7', "a label made of an expression (label): there is none here"),
+    ('label done = s=7', "a label of this form (label): there is none here"),
     ("P=? [ F x+1>3 ]", "variables are compared with single values"),
     ('[[1]] Pmax=? [ F "a" ]', "[[..]] with a value"),
     ('P=? [ F "a" ', "'the end' in place of ']'"),
@@ -103,6 +106,19 @@ class Dialects(unittest.TestCase):
                 with self.assertRaises(NoSpelling) as caught:
                     rewritten(text, CHAIN)
                 self.assertIn(cause, str(caught.exception))
+
+    def test_defined_labels(self):
+        """A label of the label file comes first, one of a plain name too, and none is known in its own expression."""
+        for text, formula in (
+            ('"done"', '"s_eq_7_and_done"'),
+            ('"round"', '("x=1" & "round")'),
+            ('"a"', '"a"'),
+        ):
+            self.assertEqual(rewritten(f"P=? [ F {text} ]", CHAIN)[0].formula, f"Pmax=? [ F {formula} ]")
+
+    def test_states_of_filters(self):
+        for states, text in (("", "true"), (', "init"', None), (", s=3", '"s=3"'), (', "a" & "bad"', '("a" & ("x>1" | "a"))')):
+            self.assertEqual(rewritten(f'filter(forall, P>=0.5 [ F "a" ]{states})', CHAIN)[0].states, text)
 
     def test_models_with_choices(self):
         with self.assertRaises(NoSpelling):
@@ -183,6 +199,23 @@ class Files(InFolder):
         self.assertEqual([one["states"][0]["lower"] for one in made[:3]], ["0.650000000000000"] * 3)
         self.assertEqual([one["status"] for one in made], [0, 0, 0, 4])
         self.assertEqual(made[1]["formula"], '<<p1>> Pmax=? [ F ("over=true" & "turn=1") ]')
+        self.assertEqual([one["by"] for one in made], ["check"] * 3 + [None])
+
+    def test_labels_and_filters(self):
+        """Labels of expressions, and a row for each state of a filter, in which `init` is where it was."""
+        text = (
+            'label "over" = over=true;\nfilter(forall, <<1>> P>=0.2 [ F "over" & "goal" ], turn=1)\n'
+            '<<1>> Pmax=? [ F turn=1 & "over" ]\nfilter(print, <<1>> Pmax=? [ F "init" ])\n'
+            'filter(state, <<1>> P>0.3 [ F "goal" ], !"over" & turn=2)\nfilter(max, P>0 [ F true ], turn=3)\n'
+        )
+        rows, status = self.rows(text, "--sta", SAMPLES / "named_game.sta")
+        whole, none, most, least = ("1.000000000000000", "0.000000000000000", "0.650000000000000", "0.200000000000000")
+        self.assertEqual(rows[:1], [["0", most, most, "True"]])
+        self.assertEqual(rows[1], ["2", whole, whole, "True"])
+        self.assertEqual(rows[2], ["0", most, most, "Bracket"])
+        self.assertEqual(rows[3:7], [["0", whole, whole, "Bracket"], *([str(state), none, none, "Bracket"] for state in (1, 2, 3))])
+        self.assertEqual(rows[7], ["1", least, least, "False"])
+        self.assertEqual((rows[8][3], status), ("refused", 4))
 
     def test_within(self):
         """One third is no multiple of a unit, so its bracket is a unit wide."""
@@ -199,19 +232,21 @@ class Files(InFolder):
                 self.assertEqual((rows[0][5], rows[1][5], ended), (verdict, "True", status))
 
     def test_by_others(self):
-        """With a bound on the steps `check` answers. Within one step player 1 keeps off the goal by passing,
-        and reaches it by throwing."""
+        """A bound on the steps takes no `--traps`, so `check` answers. Within one step player 1 keeps off the goal by
+        passing, and reaches it by throwing."""
         throws, passes = (["0", bound, bound, "True"] for bound in ("0.650000000000000", "0.000000000000000"))
         text = '<<1>> P>=0.65 [ F "goal" ]\n<<1>> P>=0.65 [ F<=1 "goal" ]\n<<1>> P<1 [ F<=1 "goal" ]\n'
         for asker in ("traps", "solve"):
             with self.subTest(asker=asker):
                 self.assertEqual(self.rows(text, "--by", asker), ([throws, throws, passes], 0))
+                askers = [line.split(",")[6] for line in self.ask(text, "--csv", "--by", asker)[1].splitlines()[1:]]
+                self.assertEqual(askers, {"traps": ["traps", "check", "check"], "solve": ["solve"] * 3}[asker])
 
     def test_refusals(self):
         for text, cause in NO_FILE:
             with self.subTest(text=text):
                 name = self.folder / "file.props"
-                self.assertEqual(self.ask(text, "--const", "K=2"), (1, "", f"properties: {name}: {cause}\n"))
+                self.assertEqual(self.ask(text, "--const", "K=2"), (4, "", f"properties: {name}: {cause}\n"))
         status, output, errors = self.ask('Pmax=? [ F "gaol" ]\nPmax=? [ F x=1 ]\n')
         self.assertEqual((status, output.count("refused")), (4, 2))
         said = [

@@ -1,5 +1,5 @@
-"""The second audit: it says what `stogame audit` says of the gallery's certificates and of a thousand that were
-changed."""
+"""The second audit: it says what `stogame audit` says of the gallery's certificates, of a thousand that were changed, and
+of models and formulas that were damaged."""
 
 import contextlib
 import io
@@ -14,6 +14,7 @@ from certified_models import certified_models, certified_questions
 from trials import TOOLS, InFolder, load, needs_program, program, run
 
 CHANGED = 1000
+DAMAGED = 200
 MOST_STATES = 400
 reaudit = load("reaudit")
 read_game = lru_cache(maxsize=None)(reaudit.read_game)
@@ -84,7 +85,7 @@ class Worked(InFolder):
         """The maximiser may stay at state 0, or go to the goal, state 1:
         only one of the choices of value 1 gets there."""
         words = [
-            str(self.write("m.tra", "2 2 3\n0 0 0 1\n0 1 1 1\n1 0 1 1\n")),
+            str(self.write("m.tra", "2 3 3\n0 0 0 1\n0 1 1 1\n1 0 1 1\n")),
             str(self.write("m.lab", '0="init" 1="goal"\n0: 0\n1: 1\n')),
         ]
         for first, second, line in (
@@ -104,33 +105,45 @@ class Worked(InFolder):
     def test_faults_name_file_and_line(self):
         self.write("certificate", "certificate 2 4\n" + "\n".join(ENTRIES) + "\n")
         words = self.words(FORMULA)
-        for place, name, text, line in (
-            (0, "m.tra", "4 6 9\n0 0 x 1\n", 2),
-            (1, "m.lab", '0="init"\n0: 7\n', 2),
-            (1, "m.lab", "x\n", 1),
+        for place, text, said in (
+            (0, "4 6 9\n0 0 x 1\n", "line 2: 'x' is no whole number"),
+            (0, "1 1 1\n0 0 0 0.5\n", "line 0: the probabilities of state 0 choice 0 do not add up to 1"),
+            (0, "1 1 2\n0 0 0 1\n", "line 0: 1 lines; the header states 2"),
+            (0, "1 1 1\n0 0 -1 1\n", "line 2: '-1' is no whole number"),
+            (1, '0="init"\n0: 7\n', "line 2: 7 is no index of the header"),
+            (1, "x\n", "line 1: 'x' is no index and name"),
         ):
-            with self.subTest(name=name, text=text):
+            with self.subTest(text=text):
                 changed = [*words[:place], str(self.write("changed", text)), *words[place + 1 :]]
-                status, output, errors = call(*changed)
-                self.assertEqual((status, output), (4, ""))
-                self.assertEqual(errors, f"reaudit: {changed[place]}: line {line}: not in the form of such a text\n")
-        for formula in (
-            'P>=0.5 [ F "gaol" ]',
-            'P>=0.5 [ X "goal" ]',
-            'P>=0.5 [ F<=3 "goal" ]',
-            '<<p3>> Pmax=? [ F "goal" ]',
-            'Pmax=? [ F ("goal" ]',
-            "",
+                self.assertEqual(call(*changed), (4, "", f"reaudit: {changed[place]}: {said}\n"))
+        for formula, said in (
+            ('P>=0.5 [ F "gaol" ]', 'there is no label "gaol"'),
+            ('P>=0.5 [ F xgoalx ]', "xgoalx in place of a label"),
+            ('P>=0.5 [ X "goal" ]', "X in place of a label"),
+            ('P>=0.5 [ F<=3 "goal" ]', "<= in place of a label"),
+            ('P<=2 [ F "goal" ]', "a threshold above 1"),
+            ('<<p3>> Pmax=? [ F "goal" ]', "a player of the coalition is not in the owner file"),
+            ('Pmax=? [ F ("goal" ]', "] in place of )"),
+            ("", "neither P with a threshold nor Pmax=? nor Pmin=?"),
         ):
             with self.subTest(formula=formula):
-                status, output, errors = call(*self.words(formula))
-                self.assertEqual(
-                    (status, output, errors), (4, "", "reaudit: formula: line 1: not in the form of such a text\n")
-                )
+                self.assertEqual(call(*self.words(formula)), (4, "", f"reaudit: formula: line 1: {said}\n"))
+
+    def test_other_endings(self):
+        words = self.words(FORMULA)
+        none = str(self.folder / "none")
+        said = f"reaudit: cannot read {none}: no such file or directory\n"
+        for place in (0, 1, 3, 5):
+            self.assertEqual(call(*words[:place], none, *words[place + 1 :]), (5, "", said))
+        self.assertEqual(call(*words[:3])[:2], (3, ""))
+        self.write("certificate", "certificate 2 4\n" + "\n".join(ENTRIES) + "\n")
+        command = " ".join(f"'{word}'" for word in (sys.executable, TOOLS / "reaudit", *words))
+        full = run("bash", "-c", f"{command} > /dev/full")
+        self.assertEqual(full, (6, "", "reaudit: cannot write the output: no storage space\n"))
 
     def test_short_and_alone(self):
         lines = (TOOLS / "reaudit").read_text().splitlines()
-        self.assertLessEqual(len(lines), 200)
+        self.assertLessEqual(len(lines), 400)
         others = {path.name.split(".")[0] for path in TOOLS.iterdir()} - {"reaudit"}
         for line in lines:
             found = re.match(r"(?:from|import) (\w+)", line)
@@ -146,15 +159,12 @@ def question_of(one):
 def judged(question, text, path):
     """What the second audit writes of a certificate for a question that was read."""
     path.write_text(text, encoding="latin-1")
-    output = io.StringIO()
-    with contextlib.redirect_stdout(output):
-        try:
-            entries = reaudit.entries_of(str(path), len(question.game))
-            reaudit.judge(question, entries)
-            reaudit.report(question, entries)
-        except reaudit.Refused as fault:
-            print("refused cert line {} {}".format(*fault.args))
-    return output.getvalue()
+    try:
+        entries = reaudit.entries_of(str(path), len(question.game))
+        reaudit.judge(question, entries)
+        return reaudit.report(question, entries)[1] + "\n"
+    except reaudit.Ended as ended:
+        return ended.args[1] + "\n"
 
 
 def changed_value(draw, field):
@@ -201,6 +211,117 @@ def changed(draw, lines, first):
             )
         )
     return "\n".join(lines) + draw.choice(("\n", "", "\n\n", "\r\n", "\r"))
+
+
+# what takes the place of a field, a token or a byte of a text that is damaged
+FIELDS = {
+    "tra": ["-1", "0", "1", "2", "3", "4", "0.5", "1/2", "1/0", "1e-24", ".5", "+1", "2.5", "1e100", "0x1", "16384", "9" * 31,
+            "0.499996", "0.4999", "1/3", "0.33333", "a", "throw", "1000001", "0:1", "00", "\xb2", "0.5 jump", "1e-1000"],
+    "lab": ['"goal"', '2="two"', '1="two"', '0="goal"', '3=""', '3="a"b"', "1", "2", "4", ":", "0:", "0:1", "-1", "x",
+            '1000000="far"', "00", "0:0 1", '5="init"', "\xb2"],
+    "own": ['2="p3"', '1="p3"', '0="p2"', '3="3p"', "0", "1", "2", "4", ":", "1:", "1:0", "1:1 0", "1:1 1", "x", '4="p 4"'],
+    "formula": ["P", ">=", "<", "<=3", "=?", "Pmax", "Pmin", "[", "]", "(", ")", "!", "&", "|", "=>", "F", "G", "U", "X",
+                '"goal"', '"init"', '"gaol"', "goal", "true", "false", "0.5", "1", "2", "1/3", "3/2", "1e-24", "<<p1>>", "<<p2,p1>>",
+                "<<p3>>", "<<>>", "p1", ",", "P>0.5 [ F true ]", "\r", "\t", "\n", "\r\n", "\x0b", "\xe4", "!" * 65, "/"],
+    "cert": ["-", "0", "1", "x", "1.000000000000001", "0.5", "certificate", "16384", "4294967296", ""],
+}
+BYTES = "01 \t\n\r.:-=x\"/e"
+
+
+def damaged(draw, kind, text):
+    """A text with one to three faults, or what looks like one."""
+    for _ in range(draw.choice((1, 1, 1, 2, 3))):
+        text = draw.choice((with_field, with_field, with_line, with_byte))(draw, kind, text)
+    return text
+
+
+def with_field(draw, kind, text):
+    """Another field or token, or one more, or one less."""
+    parts = re.split(r"(\s+)", text)
+    place = 2 * draw.randrange((len(parts) + 1) // 2)
+    field = draw.choice(FIELDS[kind])
+    parts[place] = draw.choice((field, field, f"{parts[place]} {field}", f"{parts[place]}{field}", ""))
+    return "".join(parts)
+
+
+def with_line(draw, kind, text):
+    """A line left out, doubled, moved or blank, a text cut off, or other ends of lines."""
+    lines = text.split("\n")
+    place, other = draw.randrange(len(lines)), draw.randrange(len(lines))
+    change = draw.randrange(6)
+    if change == 0:
+        del lines[place]
+    elif change == 1:
+        lines.insert(other, lines[place])
+    elif change == 2:
+        lines[place], lines[other] = lines[other], lines[place]
+    elif change == 3:
+        lines.insert(place, draw.choice(("", " ", "\t", "\r")))
+    elif change == 4:
+        return text[: draw.randrange(len(text) + 1)]
+    return draw.choice(("\n", "\n", "\r\n")).join(lines)
+
+
+def with_byte(draw, kind, text):
+    """A byte more, less, or another."""
+    place = draw.randrange(len(text) + 1)
+    return text[:place] + draw.choice((draw.choice(BYTES), "")) + text[place + draw.randrange(2) :]
+
+
+NAMED_ACTIONS = (
+    "4 6 9\n0 0 1 1 pass\n0 1 2 0.65 throw\n0 1 3 0.35 throw\n1 0 2 1/2\n1 0 3 5e-1\n1 1 2 0.2 right\n1 1 3 0.8 right\n"
+    "2 0 2 1\n3 0 3 1\n"
+)
+CHAIN = "4 5\n0 2 0.65\n0 3 0.35 gone\n1 1 1\n2 2 1\n3 3 1\n"
+
+
+@needs_program
+class Damaged(InFolder):
+    """The program and the second audit refuse the same damaged texts, and write the same of the others."""
+
+    def texts(self, kind, draw):
+        """A model, a formula and a certificate that is right, of which one text is damaged; and the words."""
+        chain = kind == "tra" and draw.random() < 0.3
+        texts = {
+            "tra": CHAIN if chain else NAMED_ACTIONS,
+            "lab": GAME[1],
+            "own": GAME[2],
+            "formula": draw.choice((FORMULA, '<<p1>> Pmax=? [ true U "goal" & !"init" ]', '<<p1>> P<1 [ G !"goal" ]')),
+            "cert": "certificate 2 4\n" + "\n".join(ENTRIES) + "\n",
+        }
+        if kind == "tra" and chain:
+            texts["cert"] = texts["cert"].replace("1 0.200000000000000 - 1 0.2", "1 0.000000000000000 - 1 0.0")
+        texts[kind] = damaged(draw, kind, texts[kind])
+        return texts
+
+    def compare(self, kind, texts):
+        """Asks both, and gives the status."""
+        names = {one: str(self.folder / one) for one in texts if one != "formula"}
+        for one, name in names.items():
+            (self.folder / one).write_bytes(texts[one].encode("latin-1"))
+        words = [names["tra"], names["lab"], texts["formula"], names["cert"], "--own", names["own"]]
+        ended, said, _ = run(program(), "audit", *words)
+        status, output, errors = call(*words)
+        self.assertEqual(status, ended, (said, output, errors))
+        if status == 4:
+            place = "formula" if errors.startswith("reaudit: formula: ") else errors.split(": ")[1].rsplit("/", 1)[1]
+            self.assertIn(said.split()[1], ("formula", "question") if place == "formula" else (place,), errors)
+        else:
+            self.assertEqual(output.replace(" reaudited ", " audited "), said)
+        return status
+
+    def test_each_kind(self):
+        for kind in FIELDS:
+            draw, statuses = random.Random(kind), []
+            for number in range(DAMAGED):
+                texts = self.texts(kind, draw)
+                if not texts["formula"] or "\0" in texts["formula"] or texts["formula"].startswith("-"):
+                    continue
+                with self.subTest(kind=kind, number=number, text=texts[kind]):
+                    statuses.append(self.compare(kind, texts))
+            refused = sum(status in (4, 8) for status in statuses)
+            with self.subTest(kind=kind):
+                self.assertTrue(DAMAGED / 4 < refused < DAMAGED, refused)
 
 
 @needs_program
