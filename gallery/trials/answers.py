@@ -1,0 +1,194 @@
+"""What `check` has to write, with one worker or within so many steps, worked out apart from the program.
+
+Each function says by its definition what docs/COMMANDS.md and docs/FORMATS.md say in words.
+"""
+
+from dataclasses import dataclass
+from fractions import Fraction
+
+from exact import exact_values
+from files import read_game, read_labels, read_owners
+from formulas import TRUE, Formula, inside, labels_in, read_formula
+from question import ONLY_PLAYER
+from rounds import bracket, decimal
+from solved import verdict_by
+from texts import Refusal
+from whole import UNIT, Asked, down, stepped, up
+
+STATUSES = {"True": 0, "Bracket": 0, "False": 1, "Undecided": 2}
+
+
+@dataclass
+class Files:
+    """A game with the states of each label, the names of the players, and the player of each state."""
+
+    game: list
+    labels: dict
+    players: list
+    owners: list
+
+    def maximises(self, formula):
+        return tuple(formula.question().maximises(owner) for owner in self.owners)
+
+
+def read_files(transitions, labels, owners=None):
+    """The files as they are read, or the refusal of the first that is none."""
+    game = read_game(transitions)
+    held = read_labels(labels, len(game))
+    players = ([ONLY_PLAYER], [ONLY_PLAYER] * len(game)) if owners is None else read_owners(owners, len(game))
+    return Files(game, held, *players)
+
+
+@dataclass
+class Answer:
+    """Lower and upper bounds, what the lines say of rounds or steps, the bracket, and how much was left open inside."""
+
+    lower: list
+    upper: list
+    how: str
+    bracket: object = None
+    undecided: int = 0
+
+
+def answer(files, formula, initial, rounds, with_traps=False):
+    """The answer to a formula, whose run ends early where the bounds of the initial states settle it."""
+    if formula.path == "G":
+        dual = answer(files, formula.dual(), initial, rounds, with_traps)
+        return Answer(mirrored(dual.upper), mirrored(dual.lower), dual.how, dual.bracket, dual.undecided)
+    (left, undecided), (right, more) = (held(files, side, rounds) for side in formula.sides())
+    asked = [question_of(files, formula, left[part], right[part]) for part in (0, 1)]
+    if formula.horizon() is not None:
+        found = within(formula, asked, right)
+    else:
+        found = in_the_end(formula, asked, initial, rounds, with_traps)
+    found.undecided = undecided + more
+    return found
+
+
+def mirrored(table):
+    return [UNIT - value for value in table]
+
+
+def question_of(files, formula, left, right):
+    dead = frozenset(range(len(files.game))) - left - right
+    return Asked(files.game, files.maximises(formula), right, dead)
+
+
+def within(formula, asked, right):
+    tables = []
+    for question, rounded, goals in zip(asked, (down, up), right):
+        table = [UNIT * (state in goals) for state in question.states()]
+        states = question.states() if formula.path == "X" else None
+        for _ in range(formula.horizon()):
+            table = stepped(question, table, rounded, states)
+        tables.append(table)
+    return Answer(*tables, f"steps {formula.horizon()}")
+
+
+def in_the_end(formula, asked, initial, rounds, with_traps):
+    def is_settled(lower, upper):
+        return all(verdict_of(formula, lower[state], upper[state]) != "Undecided" for state in initial)
+
+    rule = is_settled if formula.limit is not None else None
+    first, *_ = runs = [bracket(asked[0], rounds, rule, with_traps)]
+    if asked[0] != asked[1]:
+        runs.append(bracket(asked[1], rounds, rule))
+    return Answer(first.lower, runs[-1].upper, f"rounds {first.rounds}", first)
+
+
+def verdict_of(formula, lower, upper):
+    return verdict_by(formula, Fraction(lower, UNIT), Fraction(upper, UNIT))
+
+
+def held(files, tree, rounds):
+    """The states where a state formula surely holds and where it possibly does, and how much is left open inside."""
+    everywhere = frozenset(range(len(files.game)))
+    if isinstance(tree, Formula):
+        found = answer(files, tree, everywhere, rounds)
+        verdicts = [verdict_of(tree, *bounds) for bounds in zip(found.lower, found.upper)]
+        sure = frozenset(state for state in everywhere if verdicts[state] == "True")
+        possible = frozenset(state for state in everywhere if verdicts[state] != "False")
+        return (sure, possible), found.undecided + len(possible - sure)
+    if tree[0] in ("label", "true", "false"):
+        states = everywhere if tree == TRUE else frozenset(files.labels.get(tree[-1], ()))
+        return (states, states), 0
+    sets, counts = zip(*(held(files, part, rounds) for part in tree[1:]))
+    return joined(tree[0], everywhere, sets), sum(counts)
+
+
+def joined(sign, everywhere, sets):
+    (sure, possible), (more_sure, more_possible) = sets[0], sets[-1]
+    if sign == "&":
+        return sure & more_sure, possible & more_possible
+    if sign == "|":
+        return sure | more_sure, possible | more_possible
+    fails = everywhere - possible, everywhere - sure
+    return fails if sign == "!" else (fails[0] | more_sure, fails[1] | more_possible)
+
+
+def checked(files, text, rounds=10_000, plan=False, traps=False):
+    """The status of `check` and what it writes: a report, or the refusal of the formula or the question."""
+    formula = read_formula(text)
+    initial = initial_of(files, formula)
+    count = len(inside(formula)) - 1
+    if (plan or traps) and (count or formula.horizon() is not None):
+        raise Refusal("question", 0, "WrongKind")
+    found = answer(files, formula, initial, rounds, traps)
+    verdicts = [verdict_of(formula, found.lower[state], found.upper[state]) for state in initial]
+    lines = [f"inner {count} undecided {found.undecided}"] if count else []
+    for state, verdict in zip(initial, verdicts):
+        bounds = f"lower {decimal(found.lower[state])} upper {decimal(found.upper[state])}"
+        lines.append(f"state {state} {bounds} {found.how} {verdict}")
+    if plan:
+        asked = formula.dual() if formula.path == "G" else formula
+        lines += [f"formula {asked.formula()}", *found.bracket.certificate()]
+    return status_of(verdicts), "".join(f"{line}\n" for line in lines)
+
+
+def status_of(verdicts):
+    """1 where a verdict is `False`, else 2 where one is left open, else 0."""
+    statuses = set(map(STATUSES.get, verdicts))
+    return 1 if 1 in statuses else max(statuses)
+
+
+def initial_of(files, formula):
+    """The initial states; a label or a player that there is none of is refused, and a model without an initial state."""
+    for name in labels_in(formula):
+        if name not in files.labels:
+            raise Refusal("question", 0, f"UnknownLabel {name}")
+    for one in formulas_in_order(formula):
+        for name in one.coalition or ():
+            if name not in files.players:
+                raise Refusal("question", 0, f"UnknownPlayer {name}")
+    if not files.labels.get("init"):
+        raise Refusal("question", 0, "NoInit")
+    return sorted(files.labels["init"])
+
+
+def formulas_in_order(tree):
+    """A formula and those inside it in the order of the text."""
+    if isinstance(tree, Formula):
+        return [tree, *(one for side in tree.sides() for one in formulas_in_order(side))]
+    return [] if tree[0] == "label" else [one for part in tree[1:] for one in formulas_in_order(part)]
+
+
+def values_of(model, formula):
+    """The value of a formula at each state in fractions; its sides are evaluated first, and stand for labels."""
+    left, right = (sorted(states_of(model, side)) for side in formula.sides())
+    model.labels.update(left=left, right=right)
+    values = exact_values(model, formula.question())
+    del model.labels["left"], model.labels["right"]
+    return values
+
+
+def states_of(model, tree):
+    """The states where a state formula holds, exactly."""
+    everywhere = set(range(len(model)))
+    if isinstance(tree, Formula):
+        return {state for state, value in enumerate(values_of(model, tree)) if tree.is_true_of(value)}
+    if tree[0] in ("label", "true", "false"):
+        return everywhere if tree == TRUE else set(model.labels.get(tree[-1], ()))
+    parts = [states_of(model, part) for part in tree[1:]]
+    if tree[0] in "&|":
+        return parts[0] & parts[1] if tree[0] == "&" else parts[0] | parts[1]
+    return everywhere - parts[0] if tree[0] == "!" else everywhere - parts[0] | parts[1]

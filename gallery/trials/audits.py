@@ -1,0 +1,46 @@
+"""What `audit` has to write of a certificate, by the second audit of `tools/reaudit` over a question posed here."""
+
+import sys
+from pathlib import Path
+from types import SimpleNamespace
+
+from answers import decimal, held, initial_of, mirrored, question_of, status_of, verdict_of
+from formulas import inside, read_formula
+from texts import Refusal
+
+sys.path.append(str(Path(__file__).resolve().parents[2] / "tools"))
+from trials import load  # noqa: E402
+
+reaudit = load("reaudit")
+
+
+def audited(files, text, certificate):
+    """The status and the lines of an audit, or the refusal of the formula, the question or the certificate."""
+    formula = read_formula(text)
+    initial = initial_of(files, formula)
+    if len(inside(formula)) > 1 or formula.horizon() is not None:
+        raise Refusal("question", 0, "WrongKind")
+    asked = posed(files, formula.dual() if formula.path == "G" else formula)
+    try:
+        entries = reaudit.entries_of(str(certificate), len(files.game))
+        reaudit.judge(asked, entries)
+    except reaudit.Refused as fault:
+        raise Refusal("cert", *fault.args) from fault
+    tables = [[entry[place] for entry in entries] for place in (0, 3)]
+    lower, upper = map(mirrored, reversed(tables)) if formula.path == "G" else tables
+    verdicts = [verdict_of(formula, lower[state], upper[state]) for state in initial]
+    lines = [
+        f"state {state} lower {decimal(lower[state])} upper {decimal(upper[state])} audited {verdict}\n"
+        for state, verdict in zip(initial, verdicts)
+    ]
+    return status_of(verdicts), "".join(lines)
+
+
+def posed(files, formula):
+    """The question of a formula as the second audit has it."""
+    (left, _), (right, _) = (held(files, side, 0)[0] for side in formula.sides())
+    asked = question_of(files, formula, left, right)
+    marks = ([state in states for state in asked.states()] for states in (asked.goals, asked.dead))
+    goal, dead = marks
+    game = [[edges for edges, _ in choices] for choices in files.game]
+    return SimpleNamespace(game=game, maximises=asked.maximises, goal=goal, dead=dead)

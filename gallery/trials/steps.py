@@ -1,0 +1,30 @@
+"""`F<=k`, `U<=k` and `X`, by `check` and by `solve`: the steps rounded down and up, each bound within k units."""
+
+from answers import checked, values_of
+from core import STEPPED, Found, drawn_formula, drawn_game, faults_of_report, run, words_of, written
+from texts import is_whole
+
+COUNT = 150
+WORKERS = (1, 2, 3, 4, 5, 64)
+
+
+def trial(draw, room):
+    """One game with one question, asked with two numbers of workers and of the solver."""
+    model = drawn_game(draw)
+    found, files, formula = Found(), written(room, model), drawn_formula(draw, STEPPED)
+    status, output = checked(files, formula.formula())
+    values = values_of(model, formula)
+    found.note([formula.formula()], faults_of_report(output, formula, values) + far_ones(output, formula, values))
+    asks = [words_of("check", formula.formula(), "--workers", workers) for workers in draw.sample(WORKERS, 2)]
+    for words in [*asks, words_of("solve", formula.formula())]:
+        found.compare(words, (status, output, ""), run(room, *words))
+    return found
+
+
+def far_ones(output, formula, values):
+    """The lines with a bound that is more units from the value than there are steps."""
+    most, faults = formula.horizon(), []
+    for line, value in zip(output.splitlines(), values):
+        bounds = [int(word.replace(".", "")) for word in line.split() if is_whole(word.replace(".", "", 1)) and "." in word]
+        faults += [f"{line} is far from {value}" for bound in bounds if abs(bound - value * 10**15) > most]
+    return faults
