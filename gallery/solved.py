@@ -93,9 +93,9 @@ def verdict_by(question, lower, upper):
     return str(kept.pop()) if len(kept) == 1 else "Undecided"
 
 
-def faults_of_plan(lines, model, path, question):
-    """What is wrong with the certificate of the same question, and what an audit says of it."""
-    plan = asked("solve", path, model, question, "--plan")
+def faults_of_plan(lines, model, path, question, *options):
+    """What is wrong with the certificate of the same question, with these options, and what an audit says of it."""
+    plan = asked("solve", path, model, question, "--plan", *options)
     if failures(plan) or plan.stdout.splitlines()[: len(lines)] != lines:
         return ["--plan begins with another answer"]
     with tempfile.TemporaryDirectory() as room:

@@ -1,5 +1,4 @@
-"""Tests of the gallery's own parts, and short trials of the program where it is:
-python3 -m unittest discover gallery"""
+"""Tests of the gallery's own parts: python3 -m unittest discover gallery"""
 
 import contextlib
 import io
@@ -26,11 +25,10 @@ import hallway
 import investor
 import microgrid
 import pictures
-import solver_trials
 import teams
 import wlan
 from answer import Answer, judge_bracket, judge_inside, parted
-from asking import BUILT, bracket_of
+from asking import bracket_of
 from drawn import drawn_game, drawn_question, drawn_values, fault_of, stays_open
 from exact import exact_values, plain_value_iteration
 from families import SIZES, instances
@@ -508,17 +506,6 @@ class Drawn(unittest.TestCase):
         causes = [fault and fault[1] for fault in faults]
         for cause in (None, "BadField", "LineCount", "StateOutOfRange", "DoubleState"):
             self.assertGreater(causes.count(cause), 1, cause)
-
-
-@unittest.skipUnless(os.access(os.environ.get("STOGAME", str(BUILT)), os.X_OK), "no built program")
-class Trials(unittest.TestCase):
-    def test_drawn_games(self):
-        faults, line = solver_trials.games(20)
-        self.assertEqual(faults, 0, line)
-
-    def test_files_of_values(self):
-        faults, line = solver_trials.values(60)
-        self.assertEqual(faults, 0, line)
 
 
 class Questions(unittest.TestCase):

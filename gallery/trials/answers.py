@@ -31,6 +31,21 @@ class Files:
         return tuple(formula.question().maximises(owner) for owner in self.owners)
 
 
+class Fractions:
+    """The same files as the gallery has a model, whose probabilities are fractions."""
+
+    def __init__(self, files):
+        self.choices = [
+            [{successor: Fraction(weight, total) for weight, successor in edges} for edges, total in choices]
+            for choices in files.game
+        ]
+        self.labels, self.players = dict(files.labels), files.players
+        self.owners = list(map(files.players.index, files.owners))
+
+    def __len__(self):
+        return len(self.choices)
+
+
 def read_files(transitions, labels, owners=None):
     """The files as they are read, or the refusal of the first that is none."""
     game = read_game(transitions)

@@ -79,25 +79,25 @@ def drawn_choices(draw, count):
     return choices
 
 
-def drawn_formula(draw, paths, depth=0, asks=0.3):
-    """A formula with one of these paths, and with formulas inside to a depth."""
+def drawn_formula(draw, paths, depth=0, asks=0.3, inner=ALL_PATHS):
+    """A formula with one of these paths, and with formulas inside to a depth; some ask for a value."""
     path = draw.choice(paths)
     bound, limit = (draw.choice(ASKED), None) if draw.random() < asks else (draw.choice(SIGNS), draw.choice(LIMITS))
-    left = drawn_state(draw, depth) if path[0] == "U" else TRUE
+    left = drawn_state(draw, depth, inner) if path[0] == "U" else TRUE
     steps = draw.randint(0, 5) if path.endswith("<=") else None
     sign = path if path in "XG" else "U"
-    return Formula(draw.choice(COALITIONS), bound, limit, sign, left, drawn_state(draw, depth), steps)
+    return Formula(draw.choice(COALITIONS), bound, limit, sign, left, drawn_state(draw, depth, inner), steps)
 
 
-def drawn_state(draw, depth):
+def drawn_state(draw, depth, inner):
     """A state formula over the labels, and over formulas with thresholds inside where the depth allows them."""
     kind = draw.random()
     if kind < (0.35 if depth else 0.75):
         return ("label", draw.choice(LABELS)) if draw.random() < 0.85 else (draw.choice(("true", "false")),)
     if kind < 0.6 or depth == 0:
         sign = draw.choice(CONNECTIVES)
-        return (sign, *(drawn_state(draw, max(depth - 1, 0)) for _ in range(1 if sign == "!" else 2)))
-    return drawn_formula(draw, ALL_PATHS, depth - 1, 0)
+        return (sign, *(drawn_state(draw, max(depth - 1, 0), inner) for _ in range(1 if sign == "!" else 2)))
+    return drawn_formula(draw, inner, depth - 1, 0, inner)
 
 
 def faults_of_report(output, formula, values):
