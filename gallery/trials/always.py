@@ -1,7 +1,8 @@
 """`G`, by `check` and by `solve`: the mirrored bounds of the dual, around 1 less the dual's value in fractions."""
 
-from answers import checked, values_of
+from answers import checked
 from core import Found, drawn_formula, drawn_game, faults_of_report, run, words_of, written
+from exactly import values_of
 from solved import faults_of_line, faults_of_plan
 
 COUNT = 100

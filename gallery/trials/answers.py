@@ -6,9 +6,9 @@ Each function says by its definition what docs/COMMANDS.md and docs/FORMATS.md s
 from dataclasses import dataclass
 from fractions import Fraction
 
-from exact import exact_values
 from files import read_game, read_labels, read_owners
-from formulas import TRUE, Formula, inside, labels_in, read_formula
+from formulas import TRUE, Formula, formulas_in_order, inside, labels_in
+from grammar import read_formula
 from question import ONLY_PLAYER
 from rounds import bracket, decimal
 from solved import verdict_by
@@ -29,21 +29,6 @@ class Files:
 
     def maximises(self, formula):
         return tuple(formula.question().maximises(owner) for owner in self.owners)
-
-
-class Fractions:
-    """The same files as the gallery has a model, whose probabilities are fractions."""
-
-    def __init__(self, files):
-        self.choices = [
-            [{successor: Fraction(weight, total) for weight, successor in edges} for edges, total in choices]
-            for choices in files.game
-        ]
-        self.labels, self.players = dict(files.labels), files.players
-        self.owners = list(map(files.players.index, files.owners))
-
-    def __len__(self):
-        return len(self.choices)
 
 
 def read_files(transitions, labels, owners=None):
@@ -167,7 +152,7 @@ def status_of(verdicts):
 
 
 def initial_of(files, formula):
-    """The initial states; a label or a player that there is none of is refused, and a model without an initial state."""
+    """The initial states; a label or a player that is unknown is refused, and so is a model without such states."""
     for name in labels_in(formula):
         if name not in files.labels:
             raise Refusal("question", 0, f"UnknownLabel {name}")
@@ -178,32 +163,3 @@ def initial_of(files, formula):
     if not files.labels.get("init"):
         raise Refusal("question", 0, "NoInit")
     return sorted(files.labels["init"])
-
-
-def formulas_in_order(tree):
-    """A formula and those inside it in the order of the text."""
-    if isinstance(tree, Formula):
-        return [tree, *(one for side in tree.sides() for one in formulas_in_order(side))]
-    return [] if tree[0] == "label" else [one for part in tree[1:] for one in formulas_in_order(part)]
-
-
-def values_of(model, formula):
-    """The value of a formula at each state in fractions; its sides are evaluated first, and stand for labels."""
-    left, right = (sorted(states_of(model, side)) for side in formula.sides())
-    model.labels.update(left=left, right=right)
-    values = exact_values(model, formula.question())
-    del model.labels["left"], model.labels["right"]
-    return values
-
-
-def states_of(model, tree):
-    """The states where a state formula holds, exactly."""
-    everywhere = set(range(len(model)))
-    if isinstance(tree, Formula):
-        return {state for state, value in enumerate(values_of(model, tree)) if tree.is_true_of(value)}
-    if tree[0] in ("label", "true", "false"):
-        return everywhere if tree == TRUE else set(model.labels.get(tree[-1], ()))
-    parts = [states_of(model, part) for part in tree[1:]]
-    if tree[0] in "&|":
-        return parts[0] & parts[1] if tree[0] == "&" else parts[0] | parts[1]
-    return everywhere - parts[0] if tree[0] == "!" else everywhere - parts[0] | parts[1]

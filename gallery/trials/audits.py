@@ -5,7 +5,8 @@ from pathlib import Path
 from types import SimpleNamespace
 
 from answers import decimal, held, initial_of, mirrored, question_of, status_of, verdict_of
-from formulas import inside, read_formula
+from formulas import inside
+from grammar import read_formula
 from texts import Refusal
 
 sys.path.append(str(Path(__file__).resolve().parents[2] / "tools"))

@@ -5,19 +5,19 @@ replies bring about what it says.
 """
 
 from copy import copy
-from fractions import Fraction
 
-from answers import checked, values_of
+from answers import checked
 from audits import audited, reaudit
 from core import ENDLESS, Found, drawn_formula, drawn_game, run, words_of, written
+from exactly import values_of
 from rounds import decimal
 from texts import Refusal
 from whole import UNIT
 
 COUNT, CHANGES = 60, 6
-SHIFTS = (1, -1, 2, -2, 7, -1_000, 10**9, -(10**9), 10**14, -(10**14), UNIT, -UNIT)
-CHOICES = ("-", "-", "0", "0", "1", "2", "16383", "16384")
-RANKS = ("0", "0", "1", "2", "5", "4294967295", "4294967296")
+SHIFTS = (1, 1, -1, -1, 2, -2, 7, -1_000, 10**9, -(10**9), 10**14, -(10**14), -UNIT)
+CHOICES = (*("-", "0", "1") * 5, "2", "16383", "16384")
+RANKS = (*("0", "1", "2") * 5, "5", "4294967295", "4294967296")
 
 
 def trial(draw, room):
@@ -47,7 +47,7 @@ def change(draw, fields):
     place = draw.choice((1, 1, 2, 3, 3, 4, 4, 5))
     if place in (1, 4):
         value = int(fields[place].replace(".", "")) + draw.choice(SHIFTS)
-        fields[place] = decimal(min(abs(value), 10 * UNIT - 1))
+        fields[place] = decimal(min(abs(value), UNIT + draw.choice((0, 0, 0, 1))))
     else:
         fields[place] = draw.choice(RANKS if place == 3 else CHOICES)
 
@@ -66,14 +66,16 @@ def is_accepted(found, room, files, formula, text):
 
 
 def wrong_claims(model, formula, maximises, told, values):
-    """The states at which an accepted certificate says what is not so of the value, or of what its plans bring about."""
+    """The states at which an accepted certificate is wrong of the value, or of what its choices or replies bring about.
+
+    The value lies between what the choices reach against every strategy and what the replies allow to every strategy.
+    """
     lower, choices, _, upper, replies = zip(*told)
     reached = values_of(played(model, maximises, True, choices), formula)
     kept = values_of(played(model, maximises, False, replies), formula)
-    around = [Fraction(low, UNIT) <= value <= Fraction(high, UNIT) for low, value, high in zip(lower, values, upper)]
-    brought = [low <= value * UNIT for low, value in zip(lower, reached)]
-    held = [value * UNIT <= high for high, value in zip(upper, kept)]
-    return [f"what is said of state {state} is wrong" for state, *fine in zip(range(len(model)), around, brought, held) if not all(fine)]
+    ladders = zip(lower, *([UNIT * value for value in table] for table in (reached, values, kept)), upper)
+    wrong = [state for state, ladder in enumerate(ladders) if list(ladder) != sorted(ladder)]
+    return [f"what is said of state {state} is wrong" for state in wrong]
 
 
 def played(model, maximises, side, plan):

@@ -7,7 +7,8 @@ read apart from the program, and what it has to write is worked out: a refusal, 
 from answers import checked, read_files
 from audits import audited
 from core import Found, drawn_formula, drawn_game, run, words_of
-from formulas import inside, read_formula
+from formulas import inside
+from grammar import read_formula
 from model import states_by_mark
 from spelling import spelt_game, spelt_marks
 from texts import Refusal
@@ -16,10 +17,11 @@ COUNT = 500
 ROUNDS, MOST_STATES, MOST_STEPS = 2, 40, 1_000
 BYTES = "0019 \t\n\r\0\"=:;/.,-+eE()[]{}!&|<>PFUXGx_\x7f\xe9"
 FIELDS = (
-    *("", "0", "1", "2", "5", "00", "1.", ".5", "+1", "-1", "0,5", "1e-5", "1e-24", "0e-50", "1e100", "1E-99", "1e1000"),
-    *("1/0", "0/1", "2/6", "1/3", "2", "2.1", "1.00001", "0.99999", "0.49999", "1" * 31, "0" * 31, "9" * 40, "1/" + "9" * 24),
-    *("1000000", "1000001", "4000000", "8000001", "16384", "999999", "4294967296", "x", "-", "init", ":", '7="x"', '0="a"'),
-    *("true", "P>=1/3", "Pmax", "F<=3", "F<=x", "F<=1000001", "(", ")", "!" * 65, '"', '"one"', '"gaol"', "<<q>>", "=", "]"),
+    *("", "0", "1", "2", "5", "00", "1.", ".5", "+1", "-1", "0,5", "1e-5", "1e-24", "0e-50", "1e100", "1E-99"),
+    *("1e1000", "1/0", "0/1", "2/6", "1/3", "2", "2.1", "1.00001", "0.99999", "0.49999", "1" * 31, "0" * 31, "9" * 40),
+    *("1/" + "9" * 24, "1000000", "1000001", "4000000", "8000001", "16384", "999999", "4294967296", "x", "-", "init"),
+    *(":", '7="x"', '0="a"', "true", "P>=1/3", "Pmax", "F<=3", "F<=x", "F<=1000001", "(", ")", "!" * 65, '"', '"one"'),
+    *('"gaol"', "<<q>>", "=", "]"),
 )
 
 
@@ -103,7 +105,7 @@ def changed_parts(draw, parts, mark):
 
 
 def expected(texts, command, plan, room):
-    """The status and the output; no output where the answer is not worked out, since the game or the steps are large."""
+    """The status and the output; there is none where the answer is not worked out: of a large game, or many steps."""
     try:
         files = files_of(texts)
         if command == "audit":

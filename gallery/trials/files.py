@@ -19,7 +19,7 @@ def refuse(is_fault, text, line, cause):
 
 
 def read_game(text):
-    """For each state its choices, each a list of edges, pairs of a weight and a successor, and the sum of the weights."""
+    """For each state its choices: the edges, pairs of a weight and a successor, and the sum of the weights."""
     lines = lines_of(text)
     counts = header_of(lines)
     is_chain, states, stated = len(counts) == 2, counts[0], counts[-1]

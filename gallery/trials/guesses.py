@@ -44,7 +44,7 @@ def lower_guess(asked, zero, base, chosen):
 
 
 def ranked(asked, table, allowed):
-    """The maximiser's choices, of those allowed, and the ranks of a table, layer by layer; none where there are none."""
+    """The maximiser's choices, of those allowed, and the ranks of a table, layer by layer; none if a state has none."""
     ranks = {state: 0 for state in asked.states() if not has_rank(asked, table, state)}
     choices = [None] * len(table)
     waiting = [state for state in asked.states() if state not in ranks]

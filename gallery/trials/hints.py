@@ -6,9 +6,9 @@ much worse than that of a run without such a file.
 
 from fractions import Fraction
 
-from answers import values_of
 from asking import UNIT, bracket_of
 from core import ENDLESS, Found, drawn_formula, drawn_game
+from exactly import values_of
 from solved import faults_of_plan
 from solver import judged
 

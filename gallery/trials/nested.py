@@ -4,8 +4,9 @@ What `check` writes is worked out whole. The bounds of both lie around the value
 is asked by itself, too: as many pairs are undecided as these runs leave open.
 """
 
-from answers import checked, values_of
+from answers import checked
 from core import ALL_PATHS, Found, drawn_formula, drawn_game, faults_of_report, run, words_of, written
+from exactly import values_of
 from formulas import inside
 
 COUNT = 100
@@ -23,7 +24,8 @@ def trial(draw, room):
         _, undecided = asked(found, room, files, model, formula, command, rounds)
         found.counts[f"undecided by {command}"] += undecided
         if undecided != sum(left_open):
-            found.note([command, formula.formula(), rounds], [f"{undecided} are undecided, and {left_open} are left open"])
+            fault = f"{undecided} are undecided, and {left_open} are left open"
+            found.note([command, formula.formula(), rounds], [fault])
     return found
 
 

@@ -1,8 +1,11 @@
 """`F<=k`, `U<=k` and `X`, by `check` and by `solve`: the steps rounded down and up, each bound within k units."""
 
-from answers import checked, values_of
+from fractions import Fraction
+
+from answers import checked
+from asking import UNIT, bracket_of
 from core import STEPPED, Found, drawn_formula, drawn_game, faults_of_report, run, words_of, written
-from texts import is_whole
+from exactly import values_of
 
 COUNT = 150
 WORKERS = (1, 2, 3, 4, 5, 64)
@@ -23,8 +26,8 @@ def trial(draw, room):
 
 def far_ones(output, formula, values):
     """The lines with a bound that is more units from the value than there are steps."""
-    most, faults = formula.horizon(), []
+    faults, most = [], formula.horizon() * UNIT
     for line, value in zip(output.splitlines(), values):
-        bounds = [int(word.replace(".", "")) for word in line.split() if is_whole(word.replace(".", "", 1)) and "." in word]
-        faults += [f"{line} is far from {value}" for bound in bounds if abs(bound - value * 10**15) > most]
+        far = any(abs(Fraction(bound) - value) > most for bound in bracket_of(line))
+        faults += [f"{line} is far from {value}"] * far
     return faults

@@ -1,8 +1,10 @@
 """`sure`: the states whose value in fractions is 1; the status says whether all initial ones are among them."""
 
-from answers import Fractions, initial_of, values_of
+from answers import initial_of
 from core import Found, drawn_formula, drawn_game, run, words_of, written
-from formulas import inside, read_formula
+from exactly import InFractions, values_of
+from formulas import inside
+from grammar import read_formula
 from texts import Refusal
 
 COUNT = 200
@@ -30,6 +32,7 @@ def listed(files, text):
     initial = initial_of(files, formula)
     if len(inside(formula)) > 1 or formula.horizon() is not None or formula.path == "G":
         raise Refusal("question", 0, "WrongKind")
-    sure = [state for state, value in enumerate(values_of(Fractions(files), formula)) if value == 1]
+    values = values_of(InFractions(files), formula)
+    sure = [state for state, value in enumerate(values) if value == 1]
     lines = [f"sure {len(sure)} of {len(files.game)}", *sure]
     return 0 if set(initial) <= set(sure) else 1, "".join(f"{line}\n" for line in lines)

@@ -1,4 +1,4 @@
-"""Hostile files of values for `solve --values`: refused as a plain reading refuses them, or all that is said is true."""
+"""Hostile files of values for `solve --values`: refused as a plain reading refuses them, or else nothing is wrong."""
 
 from core import Found, run, words_of
 from drawn import drawn_game, drawn_question, drawn_values, fault_of

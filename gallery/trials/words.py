@@ -28,19 +28,23 @@ OPTIONS = {
     "sure": ("--own",),
     "make": ("--rounds", "--workers"),
 }
-FLAGS, LIMITS = ("--plan", "--traps"), {"--rounds": (0, 1_000_000), "--workers": (1, 64), "s": (1, 2**31 - 2), "n": (3, 1_000_000)}
+FLAGS = ("--plan", "--traps")
+LIMITS = {"--rounds": (0, 1_000_000), "--workers": (1, 64), "s": (1, 2**31 - 2), "n": (3, 1_000_000)}
 THRESHOLD = 'P>=0.5 [ F "goal" ]'
 FORMULAS = (
     *('<<p1>> Pmax=? [ F "goal" ]', 'Pmin=? [ F "goal" ]', f"<<p1>> {THRESHOLD}", '<<p2>> Pmin=? [ G !"goal" ]'),
     *('P>=0.5 [ X "goal" ]', 'Pmax=? [ F "gaol" ]', "", "-"),
 )
 RIGHT = {
-    **{"t": ("g.tra",), "l": ("g.lab",), "f": FORMULAS, "c": ("certificate", "bad"), "s": ("1", "7", "+42", "2147483646")},
-    **{"n": ("3", "5", "008"), "--own": ("g.own",), "--rounds": ("0", "0", "1", "3", "+2", "007", "1000000")},
-    **{"--workers": ("1", "1", "1", "+1", "4", "64"), "--values": ("bad", "values")},
+    **{"t": ("g.tra",), "l": ("g.lab",), "f": FORMULAS, "c": ("certificate", "bad"), "--own": ("g.own",)},
+    **{"--rounds": ("0", "0", "1", "3", "+2", "007", "1000000"), "--workers": ("1", "1", "1", "+1", "4", "64")},
+    **{"s": ("1", "7", "+42", "2147483646"), "n": ("3", "5", "008"), "--values": ("bad", "values")},
 }
 WRONG = ("", "-1", "+", "1.0", "0x1", "4294967296", "1000001", "65", "2147483647", "2", "-0", "x", " 1", "١")
-ODD = ("", "-", "--", "--", "--help", "-h", "--plan=", "--plan=true", "--pla", "--own", "--rounds=1", "--traps", "--plan", "---", "x", "--workers")
+ODD = (
+    *("", "-", "--", "--", "--help", "-h", "--plan=", "--plan=true", "--pla", "--own", "--rounds=1", "--traps"),
+    *("--plan", "---", "x", "--workers"),
+)
 
 
 def trial(draw, room):
@@ -48,14 +52,15 @@ def trial(draw, room):
     found = Found()
     texts = [(EXAMPLES / f"to_and_fro.{ending}").read_text(encoding="ascii") for ending in ("tra", "lab", "own")]
     certificate = checked(read_files(*texts), FORMULAS[0], 3, True)[1]
-    contents = {"g.tra": texts[0], "g.lab": texts[1], "g.own": texts[2], "certificate": certificate, "bad": "\n\n0 0\n", "values": "0.7\n" * 5}
+    contents = dict(zip(("g.tra", "g.lab", "g.own", "certificate"), (*texts, certificate)))
+    contents.update({"bad": "\n\n0 0\n", "values": "0.7\n" * 5})
     for name, text in contents.items():
         (room / name).write_text(text, encoding="ascii")
     words = drawn_words(draw)
     asked = reading(words)
     found.counts["refused" if asked is None else words[0]] += 1
     if asked is None:
-        found.compare(words, (3, USAGE, ""), run(room, *words))
+        found.compare(words, (3, USAGE), run(room, *words)[:2])
     else:
         compare_answer(found, room, words, asked, contents)
     return found
@@ -97,9 +102,10 @@ def reading(words):
                 places.append(word)
             continue
         name, equals, value = word.partition("=")
-        if waiting or (word != "--" and (name in options or name not in OPTIONS[words[0]] or (equals and name in FLAGS))):
-            return None
         ended = word == "--"
+        is_known = ended or (name in OPTIONS[words[0]] and name not in options and not (equals and name in FLAGS))
+        if waiting or not is_known:
+            return None
         if not ended:
             options[name] = value
             waiting = None if equals or name in FLAGS else name
@@ -120,7 +126,8 @@ def is_right(name, value):
 def compare_answer(found, room, words, asked, contents):
     """Compares the run with what these words ask for."""
     status, output, errors = run(room, *words)
-    missing = [asked[name] for name in ("t", "l", "--own", "c", "--values") if name in asked and asked[name] not in contents]
+    names = [asked[name] for name in ("t", "l", "--own", "c", "--values") if name in asked]
+    missing = [name for name in names if name not in contents]
     if missing:
         fine = (status, output, errors) == (5, "", f"stogame: cannot read {missing[0]}: no such file or directory\n")
         found.note(words, [] if fine or status == 4 else [f"{status} {output} {errors}, with no {missing[0]}"])

@@ -48,10 +48,13 @@ def compare_settled(found, room, files, words, settled):
 
 def kept(output):
     """The output without the number of rounds, and without choices and ranks."""
-    return [
-        (fields[:6] + fields[8:]) if fields[0] == "state" else fields[:2] + fields[4:] if fields[0].isdigit() else fields
-        for fields in map(str.split, output.splitlines())
-    ]
+    return [kept_fields(line.split()) for line in output.splitlines()]
+
+
+def kept_fields(fields):
+    if fields[0] == "state":
+        return fields[:6] + fields[8:]
+    return fields[:2] + fields[4:] if fields[0].isdigit() else fields
 
 
 def made(seed, states, rounds):
