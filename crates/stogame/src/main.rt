@@ -6,7 +6,6 @@
 
 use command_words::refused_words;
 use game_outside::OpenGate;
-use std::alloc::Global;
 use std::process::ExitCode;
 use std::rt::Files;
 use std::{env, io};
@@ -25,11 +24,14 @@ fn main(rt: HostRuntime) -> ExitCode {
     let Ok(words) = arguments.skip(1).collect::<Vec<String>>(alloc) else {
         return ExitCode::from(end_out_of_memory(&rt));
     };
+    let Ok(refused) = refused_words(alloc, &words) else {
+        return ExitCode::from(end_out_of_memory(&rt));
+    };
     let mut shelf = FileShelf::new(&rt, alloc);
     let mut out = OutSink::new(io::writer(&rt));
     let status = run(&rt, alloc, &words, &mut shelf, &mut out, &OpenGate {});
     match status {
-        Status::Usage => say_refused(&rt, alloc, &words),
+        Status::Usage => say_refused(&rt, &refused),
         Status::ReadFault => say_unread(&rt, &shelf),
         Status::WriteFault => say_unwritten(&rt, out.failure()),
         Status::OutOfMemory => say_out_of_memory(&rt),
@@ -58,14 +60,11 @@ fn say_out_of_memory(rt: &impl Eprint) {
 }
 
 // What is wrong with words that are no command, and which commands there are.
-fn say_refused(rt: &impl Eprint, alloc: Global, words: &[String]) {
-    let told = refused_words(alloc, words);
-    let message = match &told {
-        Ok(Some(message)) => message.as_str(),
-        _ => "these words are no command",
-    };
-    let line = OneLine(message);
-    let _ = eprintln!(rt; "stogame: {line}; commands: check, audit, solve, make, sure");
+fn say_refused(rt: &impl Eprint, refused: &Option<String>) {
+    if let Some(message) = refused {
+        let line = OneLine(message.as_str());
+        let _ = eprintln!(rt; "stogame: {line}; commands: check, audit, solve, make, sure");
+    }
 }
 
 // Which file was not read, and why.

@@ -1,10 +1,12 @@
 //! Bounds that a solver finds and the checks of an audit accept.
 
 use crate::models::{GOAL_AT_2, TWO_PLAYERS};
-use crate::tables::{Answer, Audited, all_write, answers_write, printed_are_audited};
+use crate::tables::{Answer, Audited, all_write, answers_write, printed_are_audited, prints};
 use crate::traps::{GOAL_AT_3, TO_AND_FRO};
 use crate::{COIN_LOOP, Case, Command, GOAL_AT_1, Row, SECOND_OWNS_1};
+use std::alloc::Global;
 use std::test::Fail;
+use std::thread::Threads;
 use stogame_app::Status;
 
 const REACH: &str = "Pmax=? [ F \"goal\" ]";
@@ -152,6 +154,9 @@ fn the_ring_is_almost_surely_stable(rt: HostRuntime) -> Result<(), Fail> {
     all_write(&rt, rt.alloc(), RING)
 }
 
+const HALF_TWICE: &str =
+    "state 0 lower 0.500000000000000 upper 0.500000000000000 solved Bracket\nstate 1 lower 0.500000000000000 upper 0.500000000000000 solved Bracket\n";
+
 const GAMES: &[Case<'static>] = &[
     Case {
         command: Command::Solve(OF_TWO_PLAYERS, None),
@@ -160,7 +165,7 @@ const GAMES: &[Case<'static>] = &[
     },
     Case {
         command: Command::Solve(OF_TO_AND_FRO, None),
-        text: "state 0 lower 0.500000000000000 upper 0.500000000000000 solved Bracket\nstate 1 lower 0.500000000000000 upper 0.500000000000000 solved Bracket\n",
+        text: HALF_TWICE,
         status: Status::Fine,
     },
 ];
@@ -211,6 +216,51 @@ const FROM_VALUES: &[Case<'static>] = &[
 #[test]
 fn values_to_begin_with_change_no_answer(rt: HostRuntime) -> Result<(), Fail> {
     all_write(&rt, rt.alloc(), FROM_VALUES)
+}
+
+// Three states that lead round, each to the next, and out of the ring: state 3 is the goal.
+const RING_WITH_EXITS: Row<'static> = Row {
+    tra: "5 5 9\n0 0 1 0.5\n0 0 3 0.4\n0 0 4 0.1\n1 0 2 0.5\n1 0 4 0.5\n2 0 0 0.8\n2 0 4 0.2\n3 0 3 1\n4 0 4 1\n",
+    lab: GOAL_AT_3,
+    ..OF_COIN_LOOP
+};
+
+// Values of five states: all below those of the game, all above, no numbers, those of other states, of some states.
+const BEGUN: &[&str] = &[
+    "0\n0\n0\n0\n0\n",
+    "1\n1\n1\n1\n1\n",
+    "nan\n-1\ninf\n0\n9\n",
+    "0.4\n0.1\n0.3\n1\n0\n",
+    "4=1\n2=0.7\n",
+];
+
+// The solution of the row from each of these values writes this text.
+fn each_begun_writes<R: Threads + Sync>(
+    rt: &R,
+    alloc: Global,
+    row: Row<'_>,
+    text: &str,
+) -> Result<(), Fail> {
+    for values in BEGUN {
+        prints(
+            rt,
+            alloc,
+            Command::Solve(row, Some(values)),
+            text,
+            Status::Fine,
+        )?;
+    }
+    Ok(())
+}
+
+// In both games states lead to each other, so the solver begins with the values.
+#[test]
+fn values_to_begin_with_change_no_component(rt: HostRuntime) -> Result<(), Fail> {
+    let alloc = rt.alloc();
+    each_begun_writes(&rt, alloc, OF_TO_AND_FRO, HALF_TWICE)?;
+    let lines =
+        "state 0 lower 0.500000000000000 upper 0.500000000000000 solved Bracket\nstate 1 lower 0.200000000000000 upper 0.200000000000000 solved Bracket\n";
+    each_begun_writes(&rt, alloc, RING_WITH_EXITS, lines)
 }
 
 const ALWAYS: Row<'static> = Row {
