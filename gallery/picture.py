@@ -7,7 +7,10 @@ WIDTH, HEIGHT = 720, 460
 LEFT, RIGHT, BOTTOM = 92, 690, 396
 LEGEND_TOP, LEGEND_HEIGHT, LEGEND_PLACES = 50, 20, (LEFT, LEFT + 300)
 DOT = 4
-LETTER, ROW = 7, 15
+LETTER, ROW, GAP = 7, 15, 10
+
+# where words stand beside a point, in the order of liking: to the right, to the left, above and below
+SIDES = ((1, 0), (-1, 0), (0, -1), (0, 1))
 SUPERSCRIPTS = str.maketrans("-0123456789", "⁻⁰¹²³⁴⁵⁶⁷⁸⁹")
 MOST_SPELT = 4
 
@@ -43,10 +46,10 @@ class Axis:
         return (value - low) / (high - low)
 
 
-def logarithmic(title, first, last, step=1):
-    """An axis of powers of ten, with a mark at each, or at each so many."""
+def logarithmic(title, first, last, step=1, margin=1):
+    """An axis of powers of ten, with a mark at each, or at each so many; it goes on by a factor at both ends."""
     marks = [(10.0**power, spelt_power(power)) for power in range(first, last + 1, step)]
-    return Axis(title, 10.0**first, 10.0**last, marks, True)
+    return Axis(title, 10.0**first / margin, 10.0**last * margin, marks, True)
 
 
 def spelt_power(power):
@@ -63,7 +66,7 @@ class Picture:
     """Curves and points over two axes, below a title and a legend of one or two columns."""
 
     def __init__(self, title, across, up, legends=4):
-        self.across, self.up, self.legends, self.parts, self.worded = across, up, 0, [], []
+        self.across, self.up, self.legends, self.parts, self.taken = across, up, 0, [], []
         self.top = LEGEND_TOP + LEGEND_HEIGHT * -(-legends // 2) + 14
         self.text(LEFT, 28, title, 16)
         for value, words in across.marks:
@@ -112,7 +115,14 @@ class Picture:
         for place in [(x + 17, y), *(self.place(*pair) for pair in pairs)]:
             self.sign(*place, colour, shape, hollow)
 
+    def link(self, one, other):
+        """A faint line from one point to another one above or below it."""
+        (x, y), (_, end) = self.place(*one), self.place(*other)
+        self.line([(x, y), (x, end)], "grey", 1, "1 3")
+        self.taken.append((x - 1, min(y, end), x + 1, max(y, end)))
+
     def sign(self, x, y, colour, shape, hollow=False):
+        self.taken.append((x - 2 * DOT, y - 2 * DOT, x + 2 * DOT, y + 2 * DOT))
         paint = f'{painted(fill="paper", stroke=colour)} stroke-width="1.6"' if hollow else painted(fill=colour)
         if shape == "circle":
             self.parts.append(f'<circle cx="{x:.1f}" cy="{y:.1f}" r="{DOT}" {paint}/>')
@@ -127,16 +137,24 @@ class Picture:
         self.sign(x, y, "ink", "circle")
         self.text(x + (10 if anchor == "start" else -10), y + (18 if below else -9), words, 13, anchor)
 
-    def words(self, across, up, words, anchor="end"):
-        """Words to the left of a point, or with the anchor `start` to the right, lower where others stand there."""
+    def words(self, across, up, words):
+        """Words beside a point, where they stand on no sign, link, other words or frame; none where there is no room."""
         x, y = self.place(across, up)
-        x, y = x + (10 if anchor == "start" else -10), min(y, BOTTOM - ROW)
-        left = x if anchor == "start" else x - LETTER * len(words)
-        right = left + LETTER * len(words)
-        while any(low < right and left < high and abs(y - row) < ROW for low, high, row in self.worded):
-            y += ROW
-        self.worded.append((left, right, y))
-        self.text(x, y + 4, words, 12, anchor)
+        width = LETTER * len(words)
+        for side, level in SIDES:
+            left = x + GAP if side > 0 else x - GAP - width if side < 0 else x - width / 2
+            middle = y + (GAP + ROW / 2) * level
+            box = (left, middle - ROW / 2, left + width, middle + ROW / 2)
+            if self.is_free(*box):
+                self.taken.append(box)
+                self.text(left, middle + 4, words, 12)
+                return
+
+    def is_free(self, left, top, right, bottom):
+        inside = LEFT < left and right < RIGHT and self.top < top and bottom < BOTTOM
+        return inside and not any(
+            low < right and left < high and above < bottom and top < below for low, above, high, below in self.taken
+        )
 
     def write(self, path):
         size = f'viewBox="0 0 {WIDTH} {HEIGHT}" width="{WIDTH}" height="{HEIGHT}"'

@@ -34,10 +34,11 @@ DIFFERENCE = 1e-6
 STEPS_OF_A_DECADE = (1, 1.25, 1.5, 2, 2.5, 3, 4, 5, 6, 8)
 TABLES = 2
 LEAST_WIDTH, LEAST_SECONDS = Fraction(1, 10**15), 0.001
-WORK = "updates of states"
+WORK = "number of updates of states"
 VALUE = "probability"
 SECONDS = "processor time, seconds"
-MOST_NAMED = 3
+# axes of measured points go on beyond their last marks, so that no point stands on the frame
+MARGIN = 3
 TIMED = {"check": "blue", "solve": "green"}
 COMMANDS = {"check": ("blue", ""), "check --traps": ("red", "7 4"), "solve": ("green", "2 3")}
 SHAPES = {"DTMC": "circle", "MDP": "square", "game": "triangle"}
@@ -72,7 +73,7 @@ def draw_sides(picture, brackets):
 def draw_chain():
     model, question = chain.model(17), Question("Pmax=?", "goal")
     picture = Picture(
-        "The chain of Haddad and Monmege, LENGTH 17; the value is 0.5", logarithmic(WORK, 4, 8), quarters()
+        "The chain of Haddad and Monmege, n = 17; the value is 0.5", logarithmic(WORK, 4, 8), quarters()
     )
     draw_sides(picture, bounds(model, question, 6))
     pairs, rounds = plain(model, question)
@@ -88,8 +89,8 @@ def quarters():
 def draw_coin():
     model, question = coin.model(2, 8), Question("Pmin=?", "heads")
     exact = exact_values(model, question)[0]
-    title = "The shared coin, 2 processes, RANGE 8"
-    picture = Picture(title, logarithmic(WORK, 5, 8), logarithmic("width, or distance from the value", -15, 0, 3))
+    title = f"The shared coin, 2 processes, K = 8; the value is {exact}"
+    picture = Picture(title, logarithmic(WORK, 5, 8), logarithmic("width or distance, a probability", -15, 0, 3))
     widths = [(work, max(upper - lower, LEAST_WIDTH)) for work, lower, upper in bounds(model, question, 5)]
     picture.curve("width of the proved bracket", widths, "blue")
     pairs, rounds = plain(model, question)
@@ -101,7 +102,7 @@ def draw_coin():
 
 def draw_stall():
     model, question = stall.model(40), Question("Pmax=?", "won", coalition=("max",))
-    title = "The game in which both players may stall, STAKE 40; the value is 0.5"
+    title = "The game in which both players may stall, stake 40; the value is 0.5"
     picture = Picture(title, logarithmic(WORK, 4, 7), quarters())
     draw_sides(picture, bounds(model, question, 5))
     lowered = [(work, upper) for work, _, upper in bounds(model, question, 5, ("--traps",))]
@@ -120,24 +121,22 @@ def rows_of(path):
 
 
 def draw_times():
-    """The time of `check` by the number of states, and that of `solve`, with a line that joins the two of one model. Of
-    models with as many states the slowest is named."""
+    """The time of `check` by the number of states, and that of `solve`, with a line that joins the two of one model.
+    Models are named where there is room, slow ones first."""
     rows = [row for row in rows_of(TIMES) if row["seconds"] and row["command"] in TIMED]
     highest = max(float(row["seconds"]) for row in rows)
-    seconds = logarithmic(SECONDS, -3, 3 if highest > 100 else 2)
-    picture = Picture("Time by number of states", logarithmic("states", 1, 6), seconds, 6)
+    seconds = logarithmic(SECONDS, -3, 3 if highest > 100 else 2, margin=MARGIN)
+    states = logarithmic("number of states", 1, 6, margin=MARGIN)
+    picture = Picture("Time by number of states", states, seconds, 6)
     for joined in pairs_of_models(rows):
-        picture.line([picture.place(*measured(row)) for row in joined], "grey", 1, "1 3")
+        picture.link(*map(measured, joined))
     for kind, shape in SHAPES.items():
         for command, colour in TIMED.items():
             pairs = [measured(row) for row in rows if (row["command"], row["kind"]) == (command, kind)]
             if pairs:
                 picture.points(f"{command}, {kind}", pairs, colour, shape, hollow=command == "solve")
-    slowest = sorted((row for row in rows if row["command"] == "check"), key=lambda row: -float(row["seconds"]))
-    named = {}
-    for row in slowest:
-        named.setdefault(row["states"], row)
-    for row in list(named.values())[:MOST_NAMED]:
+    checked = (row for row in rows if row["command"] == "check")
+    for row in sorted(checked, key=lambda row: -float(row["seconds"])):
         picture.words(*measured(row), row["model"])
     finish(picture, "times")
 
@@ -164,7 +163,7 @@ def draw_widths():
     picture = Picture(
         f"Width of the bracket by time: {rows[0]['model']}, {int(rows[0]['states']):,} states",
         logarithmic(SECONDS, -3, 3),
-        logarithmic("width of the bracket, a probability", -15, 0, 3),
+        logarithmic("width of the bracket, a probability", -15, 0, 3, margin=MARGIN),
     )
     for command, (colour, dashes) in COMMANDS.items():
         found = [(timed(row), row["width"]) for row in rows if row["command"] == command]
@@ -175,7 +174,7 @@ def draw_widths():
         elif pairs:
             picture.curve(command, pairs, colour, dashes)
         if pairs:
-            picture.words(*pairs[-1], spelt_width(found[-1][1]), "start")
+            picture.words(*pairs[-1], f"{command}: {spelt_width(found[-1][1])}")
     finish(picture, "widths")
 
 

@@ -34,7 +34,7 @@ from exact import exact_values, plain_value_iteration
 from families import SIZES, instances
 from known import OTHER, Known, agrees, same_or_size
 from model import Model, spelt
-from picture import Picture, linear, logarithmic
+from picture import BOTTOM, LEFT, RIGHT, Picture, linear, logarithmic
 from question import CLOSED, Inside, Question, sure
 from solved import Solved, faults_of_line, is_taken, solved
 from solved import spelt as spelt_width
@@ -239,16 +239,16 @@ class Pictures(unittest.TestCase):
         words, tags = self.drawn(pictures.draw_times, "times", times=rows)
         for word in (
             "Time by number of states",
-            "states",
+            "number of states",
             "processor time, seconds",
             "check, DTMC",
             "solve, DTMC",
             "a",
             "b",
+            "faster",
         ):
             self.assertIn(word, words)
-        for word in ("solve, game", "faster"):
-            self.assertNotIn(word, words)
+        self.assertNotIn("solve, game", words)
         self.assertEqual((tags.count("circle"), tags.count("polygon")), (4, 3))
 
     def test_widths(self):
@@ -261,18 +261,24 @@ class Pictures(unittest.TestCase):
             )
         )
         words, tags = self.drawn(pictures.draw_widths, "widths", widths=rows)
-        for word in ("Width of the bracket by time: m, 1,234 states", "check", "solve", "5.0 · 10⁻³", "0"):
+        for word in ("Width of the bracket by time: m, 1,234 states", "check", "solve", "check: 5.0 · 10⁻³", "solve: 0"):
             self.assertIn(word, words)
         self.assertNotIn("check --traps", words)
         self.assertEqual(tags.count("circle"), 2)
 
     def test_words_beside_each_other(self):
-        """Those of a second point at the same place stand below the first ones."""
+        """Those of one point stand on no others, on no sign and not on the frame; where there is no room are none."""
         picture = Picture("", logarithmic("", 0, 2), logarithmic("", 0, 2))
-        for words in ("first", "second"):
-            picture.words(10, 10, words)
-        (_, _, upper), (_, _, lower) = picture.worded
-        self.assertGreater(lower, upper)
+        picture.dot(10, 10, "")
+        for place in ((10, 10), (12, 10), (100, 100), (1, 1)):
+            for number in range(5):
+                picture.words(*place, f"name {number}")
+        boxes = picture.taken
+        self.assertEqual(len(boxes), 5)
+        for number, (left, top, right, bottom) in enumerate(boxes[1:], 1):
+            self.assertTrue(LEFT < left and right < RIGHT and picture.top < top and bottom < BOTTOM)
+            for low, above, high, below in boxes[:number]:
+                self.assertTrue(right <= low or high <= left or bottom <= above or below <= top)
 
 
 class Answers(unittest.TestCase):
