@@ -138,7 +138,7 @@ class Picture:
         self.text(x + (10 if anchor == "start" else -10), y + (18 if below else -9), words, 13, anchor)
 
     def words(self, across, up, words):
-        """Words beside a point, where they stand on no sign, link, other words or frame; none where there is no room."""
+        """Words beside a point, on no sign, link or other words and not on the frame; none where there is no room."""
         x, y = self.place(across, up)
         width = LETTER * len(words)
         for side, level in SIDES:

@@ -261,7 +261,8 @@ class Pictures(unittest.TestCase):
             )
         )
         words, tags = self.drawn(pictures.draw_widths, "widths", widths=rows)
-        for word in ("Width of the bracket by time: m, 1,234 states", "check", "solve", "check: 5.0 · 10⁻³", "solve: 0"):
+        title = "Width of the bracket by time: m, 1,234 states"
+        for word in (title, "check", "solve", "check: 5.0 · 10⁻³", "solve: 0"):
             self.assertIn(word, words)
         self.assertNotIn("check --traps", words)
         self.assertEqual(tags.count("circle"), 2)

@@ -48,8 +48,8 @@ def certificate_said(tool, name, formula):
     text = formula or found.formula
     asked = Asked(text) if text else None
     if asked and asked.always:
-        tell(tool, f"{name}: the certificate is of the dual of {text}; here its bounds are 1 less and exchanged, and so "
-                   "are maximiser and minimiser")
+        changes = "here its bounds are 1 less and exchanged, and so are maximiser and minimiser"
+        tell(tool, f"{name}: the certificate is of the dual of {text}; {changes}")
         found = mirrored(found)
     return found._replace(formula=text and spelt_plainly(text)), asked
 

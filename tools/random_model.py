@@ -14,7 +14,8 @@ one player nearly all are 0 or 1: there is a way to a goal, or none.
 """
 
 import random
-import sys
+
+from endings import Words, ended
 
 MOVES = 2
 GOAL_EVERY = 1000
@@ -22,7 +23,6 @@ TRAP_EVERY = 100
 PLACES = 2
 MOST_PLACES = 24
 PLAYERS = ("max", "min")
-GAME = "--game"
 
 
 def is_goal(state):
@@ -70,25 +70,27 @@ def write_owners(path, states, seed):
             out.write(f"{state}: {draw.randrange(len(PLAYERS))}\n")
 
 
+def read_words():
+    parser = Words("random_model.py", __doc__)
+    parser.add_argument("states", metavar="STATES", type=int, help=f"{GOAL_EVERY:,} or more")
+    parser.add_argument("choices", metavar="CHOICES", type=int, help="the number of choices of each state")
+    parser.add_argument("seed", metavar="SEED", type=int, help="what the model is drawn from")
+    parser.add_argument("name", metavar="NAME", help="the name of the files, without an ending")
+    parser.add_argument("places", metavar="PLACES", type=int, nargs="?", default=PLACES, help="decimal places")
+    parser.add_argument("--game", action="store_true", help="draw an owner for each state")
+    words = parser.parse_args()
+    if words.states < GOAL_EVERY or words.choices < 1 or not 1 <= words.places <= MOST_PLACES:
+        parser.error(f"a model has a thousand states, one choice and 1 to {MOST_PLACES} places")
+    return words
+
+
 def main():
-    words = [word for word in sys.argv[1:] if word != GAME]
-    if "--help" in words:
-        print(__doc__)
-        return
-    if len(words) not in (4, 5):
-        sys.exit(__doc__)
-    if not all(word.isascii() and word.isdigit() for word in words[:3] + words[4:]):
-        sys.exit("STATES, CHOICES, SEED and PLACES are whole numbers")
-    states, choices, seed = (int(word) for word in words[:3])
-    places = int(words[4]) if len(words) == 5 else PLACES
-    if states < GOAL_EVERY or choices < 1 or not 1 <= places <= MOST_PLACES:
-        sys.exit(f"a model has a thousand states, one choice and one place at least, and {MOST_PLACES} places at most")
-    name = words[3]
-    write_transitions(f"{name}.tra", states, choices, seed, places)
-    write_labels(f"{name}.lab", states)
-    if GAME in sys.argv:
-        write_owners(f"{name}.own", states, seed)
+    words = read_words()
+    write_transitions(f"{words.name}.tra", words.states, words.choices, words.seed, words.places)
+    write_labels(f"{words.name}.lab", words.states)
+    if words.game:
+        write_owners(f"{words.name}.own", words.states, words.seed)
 
 
 if __name__ == "__main__":
-    main()
+    ended("random_model.py", main)

@@ -92,8 +92,8 @@ class Dossiers(InFolder):
         for filed, today, status, said in (
             ("kit 1 logic ab", "kit 2 logic ab", 0, "the kit's logic is the same"),
             ("kit 1 logic ab", "kit 1 logic ac", 1, "the logic of the kit is ac today"),
-            ("kit unknown", "kit 1 logic ac", 0, "the kit was not compared"),
-            ("kit 1 logic ab", "kit unknown", 0, "the kit was not compared"),
+            ("kit unknown", "kit 1 logic ac", 0, "so the kit was not compared"),
+            ("kit 1 logic ab", "kit unknown", 0, "so the kit was not compared"),
         ):
             with self.subTest(filed=filed, today=today):
                 rest = self.text[self.text.index("\nlines ") :]

@@ -4,6 +4,7 @@ import stat
 import sys
 import unittest
 
+from endings import Refusal
 from trials import TOOLS, InFolder, load, needs_program, program, run_tool
 
 sys.path.insert(0, str(TOOLS.parent / "gallery"))
@@ -81,7 +82,7 @@ class MadeUp(InFolder):
         measure.store("| new |\n", "runs")
         text = "a\n<!-- measured: runs -->\n| new |\n<!-- end of measured: runs -->\nb\n"
         self.assertEqual(document.read_text(encoding="ascii"), text)
-        with self.assertRaises(SystemExit):
+        with self.assertRaises(Refusal):
             measure.store("", "widths")
 
 
@@ -94,10 +95,11 @@ class Words(unittest.TestCase):
         self.assertEqual(measure.rounds_up_to(10), [1, 3, 10])
 
     def test_faults(self):
-        self.assertEqual(run_tool("measure", "small", "--program", "none")[0], 1)
+        self.assertEqual(run_tool("measure", "small", "--program", "none")[0], 5)
         self.assertEqual(run_tool("measure", "--help")[0], 0)
         status, _, errors = run_tool("measure", "small", "--store", "--program", sys.executable)
-        self.assertEqual((status, errors), (1, "measure: only what is measured in full is stored\n"))
+        said = "measure: only what is measured in full is stored; measure --help says more\n"
+        self.assertEqual((status, errors), (3, said))
 
     def test_marks_of_the_document(self):
         text = measure.DOCUMENT.read_text(encoding="utf-8")

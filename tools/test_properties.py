@@ -117,7 +117,12 @@ class Dialects(unittest.TestCase):
             self.assertEqual(rewritten(f"P=? [ F {text} ]", CHAIN)[0].formula, f"Pmax=? [ F {formula} ]")
 
     def test_states_of_filters(self):
-        for states, text in (("", "true"), (', "init"', None), (", s=3", '"s=3"'), (', "a" & "bad"', '("a" & ("x>1" | "a"))')):
+        for states, text in (
+            ("", "true"),
+            (', "init"', None),
+            (", s=3", '"s=3"'),
+            (', "a" & "bad"', '("a" & ("x>1" | "a"))'),
+        ):
             self.assertEqual(rewritten(f'filter(forall, P>=0.5 [ F "a" ]{states})', CHAIN)[0].states, text)
 
     def test_models_with_choices(self):
@@ -213,7 +218,8 @@ class Files(InFolder):
         self.assertEqual(rows[:1], [["0", most, most, "True"]])
         self.assertEqual(rows[1], ["2", whole, whole, "True"])
         self.assertEqual(rows[2], ["0", most, most, "Bracket"])
-        self.assertEqual(rows[3:7], [["0", whole, whole, "Bracket"], *([str(state), none, none, "Bracket"] for state in (1, 2, 3))])
+        self.assertEqual(rows[3], ["0", whole, whole, "Bracket"])
+        self.assertEqual(rows[4:7], [[str(state), none, none, "Bracket"] for state in (1, 2, 3)])
         self.assertEqual(rows[7], ["1", least, least, "False"])
         self.assertEqual((rows[8][3], status), ("refused", 4))
 

@@ -1,5 +1,5 @@
-"""The second audit: it says what `stogame audit` says of the gallery's certificates, of a thousand that were changed, and
-of models and formulas that were damaged."""
+"""The second audit: it says what `stogame audit` says of the gallery's certificates, of a thousand that were changed,
+and of models and formulas that were damaged."""
 
 import contextlib
 import io
@@ -215,15 +215,28 @@ def changed(draw, lines, first):
 
 # what takes the place of a field, a token or a byte of a text that is damaged
 FIELDS = {
-    "tra": ["-1", "0", "1", "2", "3", "4", "0.5", "1/2", "1/0", "1e-24", ".5", "+1", "2.5", "1e100", "0x1", "16384", "9" * 31,
-            "0.499996", "0.4999", "1/3", "0.33333", "a", "throw", "1000001", "0:1", "00", "\xb2", "0.5 jump", "1e-1000"],
-    "lab": ['"goal"', '2="two"', '1="two"', '0="goal"', '3=""', '3="a"b"', "1", "2", "4", ":", "0:", "0:1", "-1", "x",
-            '1000000="far"', "00", "0:0 1", '5="init"', "\xb2"],
-    "own": ['2="p3"', '1="p3"', '0="p2"', '3="3p"', "0", "1", "2", "4", ":", "1:", "1:0", "1:1 0", "1:1 1", "x", '4="p 4"'],
-    "formula": ["P", ">=", "<", "<=3", "=?", "Pmax", "Pmin", "[", "]", "(", ")", "!", "&", "|", "=>", "F", "G", "U", "X",
-                '"goal"', '"init"', '"gaol"', "goal", "true", "false", "0.5", "1", "2", "1/3", "3/2", "1e-24", "<<p1>>", "<<p2,p1>>",
-                "<<p3>>", "<<>>", "p1", ",", "P>0.5 [ F true ]", "\r", "\t", "\n", "\r\n", "\x0b", "\xe4", "!" * 65, "/"],
-    "cert": ["-", "0", "1", "x", "1.000000000000001", "0.5", "certificate", "16384", "4294967296", ""],
+    "tra": [
+        "-1", "0", "1", "2", "3", "4", "0.5", "1/2", "1/0", "1e-24", ".5", "+1", "2.5", "1e100", "0x1", "16384",
+        "9999999999999999999999999999999", "0.499996", "0.4999", "1/3", "0.33333", "a", "throw", "1000001", "0:1",
+        "00", "\xb2", "0.5 jump", "1e-1000",
+    ],
+    "lab": [
+        '"goal"', '2="two"', '1="two"', '0="goal"', '3=""', '3="a"b"', "1", "2", "4", ":", "0:", "0:1", "-1", "x",
+        '1000000="far"', "00", "0:0 1", '5="init"', "\xb2",
+    ],
+    "own": [
+        '2="p3"', '1="p3"', '0="p2"', '3="3p"', "0", "1", "2", "4", ":", "1:", "1:0", "1:1 0", "1:1 1", "x",
+        '4="p 4"',
+    ],
+    "formula": [
+        "P", ">=", "<", "<=3", "=?", "Pmax", "Pmin", "[", "]", "(", ")", "!", "&", "|", "=>", "F", "G", "U", "X",
+        '"goal"', '"init"', '"gaol"', "goal", "true", "false", "0.5", "1", "2", "1/3", "3/2", "1e-24", "<<p1>>",
+        "<<p2,p1>>", "<<p3>>", "<<>>", "p1", ",", "P>0.5 [ F true ]", "\r", "\t", "\n", "\r\n", "\x0b", "\xe4",
+        "!!!!!!!!!!!!!!!!!!!!!!!!!!!!!!!!!!!!!!!!!!!!!!!!!!!!!!!!!!!!!!!!!", "/",
+    ],
+    "cert": [
+        "-", "0", "1", "x", "1.000000000000001", "0.5", "certificate", "16384", "4294967296", "",
+    ],
 }
 BYTES = "01 \t\n\r.:-=x\"/e"
 
@@ -269,8 +282,8 @@ def with_byte(draw, kind, text):
 
 
 NAMED_ACTIONS = (
-    "4 6 9\n0 0 1 1 pass\n0 1 2 0.65 throw\n0 1 3 0.35 throw\n1 0 2 1/2\n1 0 3 5e-1\n1 1 2 0.2 right\n1 1 3 0.8 right\n"
-    "2 0 2 1\n3 0 3 1\n"
+    "4 6 9\n0 0 1 1 pass\n0 1 2 0.65 throw\n0 1 3 0.35 throw\n1 0 2 1/2\n1 0 3 5e-1\n"
+    "1 1 2 0.2 right\n1 1 3 0.8 right\n2 0 2 1\n3 0 3 1\n"
 )
 CHAIN = "4 5\n0 2 0.65\n0 3 0.35 gone\n1 1 1\n2 2 1\n3 3 1\n"
 

@@ -118,7 +118,7 @@ NO_STRATEGY = [
 
 def fits(schema, value):
     """Whether a value is of a schema of the few kinds that the table's has."""
-    kinds = {"object": dict, "array": list, "string": str, "integer": int, "null": type(None)}
+    kinds = {"object": dict, "array": list, "string": str, "integer": int, "boolean": bool, "null": type(None)}
     kind = schema.get("type", [])
     if not any(isinstance(value, kinds[one]) for one in ([kind] if isinstance(kind, str) else kind)):
         return "enum" in schema and value in schema["enum"]
@@ -176,6 +176,39 @@ class Small(InFolder):
         )
         self.assertIn("maximiser", call_tool("table", cert, "--formula", 'Pmax=? [ F "a" ]')[1])
         self.assertIn("minimiser", call_tool("table", cert, "--formula", 'Pmin=? [ G "a" ]')[1])
+
+    def test_of_always(self):
+        """A certificate of `G` is of its dual. Of the dual it is shown as it is, without double negations; of the `G`
+        of a dossier, or of --formula, its bounds are 1 less and its sides exchanged, which is told."""
+        tra = self.write("m.tra", "3 4 6\n0 0 0 1\n0 1 0 0.5\n0 1 1 0.5\n1 0 1 1\n2 0 0 0.25\n2 0 1 0.75\n")
+        entries = (
+            "certificate 2 3\n0 0.000000000000000 - 0 0.000000000000000 0\n"
+            "1 1.000000000000000 - 0 1.000000000000000 -\n2 0.500000000000000 - 1 0.750000000000000 0\n"
+        )
+        dual, asked = 'formula Pmin=? [ F !!"bad" ]\n', 'formula Pmax=? [ G !"bad" ]\n'
+        for head, words, formula, bounds, mover in (
+            (dual, [], 'Pmin=? [ F "bad" ]', ["0.500000000000000", "0.750000000000000"], "minimiser"),
+            (asked, [], 'Pmax=? [ G !"bad" ]', ["0.250000000000000", "0.500000000000000"], "maximiser"),
+            (dual, ["--formula", 'Pmax=? [ G !"bad" ]'], 'Pmax=? [ G !"bad" ]',
+             ["0.250000000000000", "0.500000000000000"], "maximiser"),
+        ):
+            with self.subTest(head=head, words=words):
+                cert, mirrored = str(self.write("always", head + entries)), mover == "maximiser"
+                status, output, errors = call_tool("table", cert, "--tra", tra, *words, "--json")
+                made = json.loads(output)
+                self.assertEqual((status, made["formula"], made["mirrored"]), (0, formula, mirrored))
+                self.assertTrue(fits(json.loads(SCHEMA.read_text()), made))
+                row = made["states"][2]
+                self.assertEqual([row["lower"], row["upper"], row["mover"], row["choice"]], [*bounds, mover, 0])
+                said = f"table: {cert}: the certificate is of the dual of {formula}; " if mirrored else ""
+                self.assertTrue(errors.startswith(said) and errors.count("\n") == mirrored, errors)
+                for form in ([], ["--csv"]):
+                    self.assertIn(bounds[0], call_tool("table", cert, "--tra", tra, *words, *form)[1].splitlines()[3])
+                for side in ("maximiser", "minimiser"):
+                    words_of_side = ["--tra", tra, "--side", side, "--prism-actions", *words]
+                    status, output, errors = call_tool("strategy", cert, *words_of_side)
+                    self.assertEqual((status, output), (0, "0:0\n1:0\n2:0\n" if side == mover else ""))
+                    self.assertTrue(errors.startswith(said.replace("table", "strategy")), errors)
 
     def test_written_strategies(self):
         for options, text in WRITTEN:
@@ -307,7 +340,8 @@ class Guarantees(InFolder):
     def test_refusals(self):
         for text, cause in NO_STRATEGY:
             with self.subTest(text=text):
-                self.assertEqual(self.ask(text), (1, "", f"guarantee: {self.folder / 'mine'}: {cause}\n"))
+                self.assertEqual(self.ask(text), (4, "", f"guarantee: {self.folder / 'mine'}: {cause}\n"))
+
 
 @needs_program
 class OfTheGallery(InFolder):
@@ -381,15 +415,15 @@ class OfTheGallery(InFolder):
 def as_csv(row):
     """A row of the JSON as CSV has it."""
     return {
-        name: " ".join(value) if isinstance(value, list) else "-" if value is None else str(value)
+        name: " ".join(value) if isinstance(value, list) else "" if value is None else str(value)
         for name, value in row.items()
     }
 
 
 def entry_of(row):
     """The fields of a certificate's line that a row of the table was made of."""
-    replies = row["mover"] == "minimiser"
-    choice, reply = ("-", row["choice"]) if replies else (row["choice"], "-")
+    move = row["choice"] or "-"
+    choice, reply = ("-", move) if row["mover"] == "minimiser" else (move, "-")
     return [row["state"], row["lower"], choice, row["rank"], row["upper"], reply]
 
 
