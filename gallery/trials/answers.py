@@ -79,10 +79,18 @@ def within(formula, asked, right):
     for question, rounded, goals in zip(asked, (down, up), right):
         table = [UNIT * (state in goals) for state in question.states()]
         states = question.states() if formula.path == "X" else None
-        for _ in range(formula.horizon()):
-            table = stepped(question, table, rounded, states)
-        tables.append(table)
+        tables.append(fold(question, table, rounded, formula.horizon(), states))
     return Answer(*tables, f"steps {formula.horizon()}")
+
+
+def fold(question, table, rounded, steps, states):
+    """The table after so many steps, of which none follows that changes nothing."""
+    for _ in range(steps):
+        after = stepped(question, table, rounded, states)
+        if after == table:
+            break
+        table = after
+    return table
 
 
 def in_the_end(formula, asked, initial, rounds, with_traps):

@@ -34,6 +34,12 @@ def trial(draw, room):
     for _ in range(draw.choice((0, 1, 1, 1, 2))):
         name = draw.choice((*texts, list(texts)[-1]))
         texts[name] = damaged(draw, texts[name], name == "formula")
+    compare(found, room, texts, command, plan)
+    return found
+
+
+def compare(found, room, texts, command="check", plan=False):
+    """Compares what a command writes of these texts with what they mean."""
     for name, text in texts.items():
         (room / f"m.{name}").write_bytes(text.encode("latin-1"))
     rest = ["m.certificate"] if command == "audit" else ["--rounds", ROUNDS, "--workers", 1, *["--plan"] * plan]
@@ -42,8 +48,7 @@ def trial(draw, room):
     ran = run(room, *words)
     found.counts[" ".join(output.split()[:2]) if output and status > 2 else "answers" if output else "large ones"] += 1
     if output or ran[0] > 2:
-        found.compare([*words, texts], (status, output, ""), ran)
-    return found
+        found.compare([*words, {name: text[:500] for name, text in texts.items()}], (status, output, ""), ran)
 
 
 def drawn_texts(draw):
