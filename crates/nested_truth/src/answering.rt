@@ -20,7 +20,8 @@ use std::thread::Threads;
 use verdicts::How;
 
 /// The lower bounds of one question and the upper ones of another: one answer, where they are the same. A run of rounds
-/// ends where the bound is settled at all of these states.
+/// ends where the bound is settled at all of these states; a solver is asked about those of them where it is not, of
+/// the outermost formula about all.
 pub fn answer_both<R: Threads + Sync, G: Gate + Sync>(
     rt: &R,
     alloc: Global,
@@ -28,6 +29,7 @@ pub fn answer_both<R: Threads + Sync, G: Gate + Sync>(
     questions: &Questions<'_>,
     bound: Bound,
     starts: &[u32],
+    is_inside: bool,
     gate: &G,
 ) -> Result<Bounds, OutOfMemory>
     requires other { IfSome questions.now.high (λ question. questions.now.low ≢ question) }
@@ -46,12 +48,13 @@ pub fn answer_both<R: Threads + Sync, G: Gate + Sync>(
         &questions.low,
         bound,
         starts,
+        is_inside,
         gate,
     )?;
     match &questions.high {
         None => Ok(Bounds { lower, upper, how }),
         Some(high) => {
-            let upper = answer_one(rt, alloc, setting, high, bound, starts, gate)?.upper;
+            let upper = answer_one(rt, alloc, setting, high, bound, starts, is_inside, gate)?.upper;
             Ok(Bounds { lower, upper, how })
         }
     }
@@ -65,6 +68,7 @@ fn answer_one<R: Threads + Sync, G: Gate + Sync>(
     question: &Question<'_>,
     bound: Bound,
     starts: &[u32],
+    is_inside: bool,
     gate: &G,
 ) -> Result<Bounds, OutOfMemory>
     requires game { question.now.game ≡ setting.game.now }
@@ -94,9 +98,24 @@ fn answer_one<R: Threads + Sync, G: Gate + Sync>(
             Ok(Bounds { lower, upper, how })
         }
         Way::BySolver => {
-            let Plan { lower, upper, .. } = solve_question(alloc, question, predecessors, None)?;
+            let left = left_open(bound, is_inside);
+            let Plan { lower, upper, .. } = solve_question(
+                rt,
+                alloc,
+                question,
+                predecessors,
+                None,
+                left,
+                starts,
+                gate,
+            )?;
             let how = How::Solved;
             Ok(Bounds { lower, upper, how })
         }
     }
+}
+
+// The bound that has to be settled at a state so that nothing more is asked about it.
+fn left_open(bound: Bound, is_inside: bool) -> Bound {
+    if is_inside { bound } else { Bound::AskMax }
 }

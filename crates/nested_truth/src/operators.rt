@@ -29,6 +29,7 @@ pub fn bounds_of<R: Threads + Sync, G: Gate + Sync>(
     left: &KnownSets,
     right: KnownSets,
     starts: &[u32],
+    is_inside: bool,
     gate: &G,
 ) -> Result<Bounds, OutOfMemory>
     requires kind { HasKind formula.now.kind (state_of formula.now.left) }
@@ -41,13 +42,15 @@ pub fn bounds_of<R: Threads + Sync, G: Gate + Sync>(
     ensures band { IfOk result (λ bounds. IsBand (length setting.entry.game.now) (band_in bounds)) }
 {
     match formula.kind {
-        PathKind::Until => reached(rt, alloc, setting, formula, left, &right, starts, gate),
+        PathKind::Until => reached(
+            rt, alloc, setting, formula, left, &right, starts, is_inside, gate,
+        ),
         PathKind::Within(steps) => {
             let questions = Questions::of_formula(alloc, setting, formula, left, &right)?;
             sweep(rt, alloc, setting, &questions, steps, gate)
         }
         PathKind::Next => next_sweep(rt, alloc, setting, formula, &right, gate),
-        PathKind::Always => always(rt, alloc, setting, formula, right, starts, gate),
+        PathKind::Always => always(rt, alloc, setting, formula, right, starts, is_inside, gate),
     }
 }
 
@@ -60,6 +63,7 @@ fn reached<R: Threads + Sync, G: Gate + Sync>(
     left: &KnownSets,
     right: &KnownSets,
     starts: &[u32],
+    is_inside: bool,
     gate: &G,
 ) -> Result<Bounds, OutOfMemory>
     requires left { length left.now.sure.items ≡ length setting.game.now }
@@ -70,7 +74,16 @@ fn reached<R: Threads + Sync, G: Gate + Sync>(
     ensures band { IfOk result (λ bounds. IsBand (length setting.entry.game.now) (band_in bounds)) }
 {
     let questions = Questions::of_formula(alloc, setting, formula, left, right)?;
-    answer_both(rt, alloc, setting, &questions, formula.bound, starts, gate)
+    answer_both(
+        rt,
+        alloc,
+        setting,
+        &questions,
+        formula.bound,
+        starts,
+        is_inside,
+        gate,
+    )
 }
 
 // The bounds of a formula with `G`: 1 less those of its dual.
@@ -81,6 +94,7 @@ fn always<R: Threads + Sync, G: Gate + Sync>(
     formula: &Formula,
     right: KnownSets,
     starts: &[u32],
+    is_inside: bool,
     gate: &G,
 ) -> Result<Bounds, OutOfMemory>
     requires kind { formula.now.kind ≡ PathKind.Always }
@@ -94,6 +108,8 @@ fn always<R: Threads + Sync, G: Gate + Sync>(
     let dual = dual(alloc, formula)?;
     let left = KnownSets::same_at_all(alloc, true, setting.game.states())?;
     let right = right.negated();
-    let found = reached(rt, alloc, setting, &dual, &left, &right, starts, gate)?;
+    let found = reached(
+        rt, alloc, setting, &dual, &left, &right, starts, is_inside, gate,
+    )?;
     found.mirrored(alloc)
 }

@@ -133,7 +133,7 @@ fn answer_in<R: Threads + Sync, G: Gate + Sync>(
     let inner = left.inner + right.inner;
     let undecided = left.undecided + right.undecided;
     let bounds = bounds_of(
-        rt, alloc, setting, formula, &left.sets, right.sets, &initial, gate,
+        rt, alloc, setting, formula, &left.sets, right.sets, &initial, false, gate,
     )?;
     Ok(Nested {
         initial,

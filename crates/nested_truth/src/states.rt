@@ -71,7 +71,7 @@ fn judge_inside<R: Threads + Sync, G: Gate + Sync>(
     let before = left.undecided + right.undecided;
     let starts = setting.everywhere;
     let bounds = bounds_of(
-        rt, alloc, setting, formula, &left.sets, right.sets, starts, gate,
+        rt, alloc, setting, formula, &left.sets, right.sets, starts, true, gate,
     )?;
     let (sets, undecided) = judged_by(alloc, &formula.bound, &bounds, setting.game.states())?;
     Ok(Judged {

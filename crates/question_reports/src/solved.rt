@@ -8,27 +8,30 @@ ghost use Rattle.run_answers.specs.Status.{IsAnswer};
 ghost use Rattle.question_reports.specs.Solved.{IsSolved};
 
 use crate::reports::{Formulas, make_answer};
-use formula_reader::Formula;
+use formula_reader::{Bound, Formula};
 use formula_sets::Posed;
-use game_outside::OutOfMemory;
+use game_outside::{Gate, OutOfMemory};
 use predecessors::Predecessors;
 use run_answers::Answer;
 use solved_questions::solve_question;
 use std::alloc::Global;
+use std::thread::Threads;
 use verdicts::How;
 use verdicts::laws::{mirrored_verdicts_are_those_of_the_dual, undecided_thresholds_are_left_open};
 
 /// One line for each initial state, with the bounds of a plan that passes an audit and is sound, and what they say of
-/// the formula's bound; and behind them the certificate, where it is asked for. The question is that of the answered
-/// formula: of `G` the dual, else the same. Values to begin with, one for each state, are hints alone. The only error
-/// is want of memory.
-pub fn solved_report(
+/// the formula's bound; and behind them the certificate, where it is asked for. Bounds that are far apart at an initial
+/// state are compared with those of rounds. The question is that of the answered formula: of `G` the dual, else the
+/// same. Values to begin with, one for each state, are hints alone. The only error is want of memory.
+pub fn solved_report<R: Threads + Sync, G: Gate + Sync>(
+    rt: &R,
     alloc: Global,
     posed: &Posed<'_>,
     spelled: &Formula,
     answered: &Formula,
     asked: bool,
     hints: Option<&[f64]>,
+    gate: &G,
 ) -> Result<Answer, OutOfMemory>
     requires inside { All (λ s. s < states posed.now.question) posed.now.initial.items }
     requires same { tree_of answered.now ≡ answered_of (tree_of spelled.now) }
@@ -40,7 +43,16 @@ pub fn solved_report(
     let question = &posed.question;
     let initial: &[u32] = &posed.initial;
     let predecessors = Predecessors::of_game(alloc, question.game())?;
-    let plan = solve_question(alloc, question, &predecessors, hints)?;
+    let plan = solve_question(
+        rt,
+        alloc,
+        question,
+        &predecessors,
+        hints,
+        Bound::AskMax,
+        initial,
+        gate,
+    )?;
     // What a question keeps, and two laws: these calls do nothing.
     question.known();
     undecided_thresholds_are_left_open();

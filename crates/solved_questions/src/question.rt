@@ -1,6 +1,6 @@
 //! The plan of a question.
 
-ghost use Rattle.std.specs.Prelude.{IfOk, slice_index};
+ghost use Rattle.std.specs.Prelude.{◌<◌, All, IfOk, slice_index};
 ghost use Rattle.game_model.specs.Query.{states};
 ghost use Rattle.predecessors.specs.Lists.{ArePredecessors};
 ghost use Rattle.inductive_check.specs.Replies.{AreFirstReplies};
@@ -9,26 +9,40 @@ ghost use Rattle.plan_text.specs.Entries.{HasStates};
 ghost use Rattle.certificate_audit.specs.Accepted.{IsSoundPlan, Passes};
 ghost use Rattle.solved_plans.specs.Plans.{IsSureExactly, IsZeroExactly};
 
+use crate::better::better_of;
+use crate::wide::{are_close, rounds_for};
 use almost_sure::almost_sure_over;
+use bracket_engine::bracket_for;
+use formula_reader::Bound;
 use game_model::Question;
-use game_outside::OutOfMemory;
+use game_outside::{Gate, OutOfMemory};
 use plan_solver::find_bounds;
 use plan_text::Plan;
 use predecessors::Predecessors;
 use solved_plans::hand_out;
 use std::alloc::Global;
+use std::thread::Threads;
 use zero_sets::zero_set_over;
 
 /// A plan of a question, over the predecessors in its game, that passes the checks of an audit and is sound. The lower
 /// bound is 1 exactly at the almost-sure states, and the upper one 0 exactly in the zero set. Values to begin with, one
-/// for each state, are hints alone. The only error is want of memory.
-pub fn solve_question(
+/// for each state, are hints alone.
+///
+/// A state of these starts is asked about where its bounds do not settle the bound. Where they are far apart at one
+/// such state, rounds are made by one worker, who passes the gate before each state, and each side takes the better
+/// table: the upper one state by state, the lower one by its sum over these states. The only error is want of memory.
+pub fn solve_question<R: Threads + Sync, G: Gate + Sync>(
+    rt: &R,
     alloc: Global,
     question: &Question,
     predecessors: &Predecessors,
     hints: Option<&[f64]>,
+    bound: Bound,
+    starts: &[u32],
+    gate: &G,
 ) -> Result<Plan, OutOfMemory>
-    requires { ArePredecessors question.now.game predecessors.now }
+    requires lists { ArePredecessors question.now.game predecessors.now }
+    requires starts { All (λ s. s < states question.now) starts.now }
     ensures lists { IfOk result (λ plan. HasStates plan (states question.now)) }
     ensures passes { IfOk result (λ plan. Passes question.now plan) }
     ensures sound { IfOk result (λ plan. IsSoundPlan question.now plan) }
@@ -42,5 +56,33 @@ pub fn solve_question(
     let zero = zero_set_over(alloc, question, predecessors)?;
     let sure = almost_sure_over(alloc, question, predecessors, &zero)?;
     let candidates = find_bounds(alloc, question, predecessors, &sure, &zero, hints)?;
-    hand_out(alloc, question, predecessors, &sure, &zero, &candidates)
+    let plan = hand_out(alloc, question, predecessors, &sure, &zero, &candidates)?;
+    drop(candidates);
+    if are_close(&bound, starts, &plan) {
+        return Ok(plan);
+    }
+    let rounds = rounds_for(question.game());
+    let found = bracket_for(
+        rt,
+        alloc,
+        question,
+        predecessors,
+        Bound::AskMax,
+        starts,
+        rounds,
+        1,
+        gate,
+    )?;
+    let better = better_of(
+        alloc,
+        question,
+        &sure,
+        &bound,
+        starts,
+        &plan,
+        &found.bracket,
+    )?;
+    drop(plan);
+    drop(found);
+    hand_out(alloc, question, predecessors, &sure, &zero, &better)
 }

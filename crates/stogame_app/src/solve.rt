@@ -99,7 +99,7 @@ fn report_on<R: Threads + Sync, G: Gate + Sync>(
     match problem {
         Problem::Reach(posed, _) => {
             let answered = problem.answered(formula);
-            solved_report(alloc, posed, formula, answered, solve.plan, hints)
+            solved_report(rt, alloc, posed, formula, answered, solve.plan, hints, gate)
         }
         Problem::Within(posed, steps) => {
             within_report(rt, alloc, posed, *steps, formula, WORKERS, gate)

@@ -1,0 +1,88 @@
+//! The better tables of a plan and of a bracket.
+
+ghost use Rattle.std.specs.Prelude.{◌≡◌, length};
+ghost use Rattle.game_model.specs.Query.{states};
+
+use crate::wide::{entry_of, is_open};
+use bracket_engine::Bracket;
+use formula_reader::Bound;
+use game_model::{Marks, Question, UNIT};
+use game_outside::OutOfMemory;
+use plan_text::Plan;
+use solved_plans::Candidates;
+use std::alloc::Global;
+
+/// The lesser upper entry of each state; and of the lower tables the one whose sum is greater over the states of these
+/// that the bounds of the plan leave open, at a tie the plan's. The lower table of the bracket has the unit at the
+/// almost-sure states, as that of the plan.
+pub fn better_of(
+    alloc: Global,
+    question: &Question,
+    sure: &Marks,
+    bound: &Bound,
+    starts: &[u32],
+    plan: &Plan,
+    found: &Bracket,
+) -> Result<Candidates, OutOfMemory>
+    requires { length sure.now ≡ states question.now }
+{
+    let upper = lesser(alloc, question, &plan.upper, &found.upper)?;
+    let raised = raised(alloc, question, sure, &found.lower)?;
+    let own = sum_of(bound, starts, plan, &plan.lower);
+    if own < sum_of(bound, starts, plan, &raised) {
+        return Ok(Candidates {
+            lower: raised,
+            upper,
+        });
+    }
+    let lower = plan.lower.to_vec(alloc)?;
+    Ok(Candidates { lower, upper })
+}
+
+// The lesser of two tables, state by state.
+fn lesser(
+    alloc: Global,
+    question: &Question,
+    one: &[u64],
+    other: &[u64],
+) -> Result<Vec<u64>, OutOfMemory> {
+    let states = question.game().states();
+    let mut table = Vec::with_capacity(alloc, states as usize)?;
+    for state in 0..states {
+        table.push(entry_of(one, state).min(entry_of(other, state)))?;
+    }
+    Ok(table)
+}
+
+// A table with the unit at these states.
+fn raised(
+    alloc: Global,
+    question: &Question,
+    sure: &Marks,
+    table: &[u64],
+) -> Result<Vec<u64>, OutOfMemory>
+    requires { length sure.now ≡ states question.now }
+{
+    let states = question.game().states();
+    let mut raised = Vec::with_capacity(alloc, states as usize)?;
+    for state in 0..states {
+        let entry = if sure.has(state) {
+            UNIT
+        } else {
+            entry_of(table, state)
+        };
+        raised.push(entry)?;
+    }
+    Ok(raised)
+}
+
+// The sum of a table over the states of these that the bounds of a plan leave open.
+fn sum_of(bound: &Bound, starts: &[u32], plan: &Plan, table: &[u64]) -> u128 {
+    let mut sum: u128 = 0;
+    for state in starts {
+        if is_open(bound, plan, *state) {
+            sum = sum.saturating_add(u128::from(entry_of(table, *state)));
+        }
+    }
+    sum
+}
