@@ -107,7 +107,8 @@ class Rewriter:
         """The whole property."""
         made = self.filtered() if self.ahead("filter") else self.outermost()
         if self.tokens[0][0] != "end":
-            raise NoSpelling(f"'{self.tokens[0][1]}' behind the formula")
+            one_by_one = "; ask each property by itself" if self.ahead("&", "|", "=>", "<=>") else ""
+            raise NoSpelling(f"'{self.tokens[0][1]}' behind the formula{one_by_one}")
         return made
 
     def filtered(self):

@@ -80,6 +80,7 @@ REFUSED = [
     ('[[1]] Pmax=? [ F "a" ]', "[[..]] with a value"),
     ('P=? [ F "a" ', "'the end' in place of ']'"),
     ('P=? [ F "a" ] x', "'x' behind the formula"),
+    ('P>0 [ F "a" ] & P>0 [ F "b" ]', "'&' behind the formula; ask each property by itself"),
     ('P=? [ F "a b" ]', "no token"),
     ('"a"', "a property begins with P, a coalition or a quantifier"),
 ]

@@ -213,6 +213,12 @@ def changed(draw, lines, first):
     return "\n".join(lines) + draw.choice(("\n", "", "\n\n", "\r\n", "\r"))
 
 
+NAMED_ACTIONS = (
+    "4 6 9\n0 0 1 1 pass\n0 1 2 0.65 throw\n0 1 3 0.35 throw\n1 0 2 1/2\n1 0 3 5e-1\n"
+    "1 1 2 0.2 right\n1 1 3 0.8 right\n2 0 2 1\n3 0 3 1\n"
+)
+CHAIN = "4 5\n0 2 0.65\n0 3 0.35 gone\n1 1 1\n2 2 1\n3 3 1\n"
+
 # what takes the place of a field, a token or a byte of a text that is damaged
 FIELDS = {
     "tra": [
@@ -238,6 +244,42 @@ FIELDS = {
         "-", "0", "1", "x", "1.000000000000001", "0.5", "certificate", "16384", "4294967296", "",
     ],
 }
+# texts at a limit and just beyond it, each with whether it is accepted
+LIMITS = [
+    ("formula", FORMULA.replace("[ F", "[ F" + " " * (4096 - len(FORMULA))), True),
+    ("formula", FORMULA.replace("[ F", "[ F" + " " * (4097 - len(FORMULA))), False),
+    ("formula", '<<p1>> P>=0.6 [ F ' + "(" * 64 + '"goal"' + ")" * 64 + " ]", True),
+    ("formula", '<<p1>> P>=0.6 [ F ' + "(" * 65 + '"goal"' + ")" * 65 + " ]", False),
+    ("formula", '<<p1>> P>=0.6 [ F ' + '"goal" & ' * 400 + '"goal" ]', True),
+    ("formula", FORMULA.replace("0.6", "0.6" + "0" * 28), True),
+    ("formula", FORMULA.replace("0.6", "0.6" + "0" * 29), False),
+    ("formula", FORMULA.replace("0.6", "6e-01"), True),
+    ("formula", FORMULA.replace("0.6", "6e-0001"), False),
+    ("formula", FORMULA.replace("0.6", "0e-99"), True),
+    ("formula", FORMULA.replace("0.6", "0e-100"), False),
+    ("formula", FORMULA.replace("0.6", "0.00000000000000000000001"), True),
+    ("formula", FORMULA.replace("0.6", "0.000000000000000000000001"), False),
+    ("formula", FORMULA.replace("0.6", "00/1"), True),
+    ("formula", FORMULA.replace("0.6", "0/0"), False),
+    ("lab", '0="init" 1="goal" 2="%s"\n0: 0\n2: 1\n' % ("x" * 255), True),
+    ("lab", '0="init" 1="goal" 2="%s"\n0: 0\n2: 1\n' % ("x" * 256), False),
+    ("lab", " ".join(['0="init" 1="goal"', *(f'{n}="l{n}"' for n in range(2, 1000))]) + "\n0: 0\n2: 1\n", True),
+    ("lab", " ".join(['0="init" 1="goal"', *(f'{n}="l{n}"' for n in range(2, 1001))]) + "\n0: 0\n2: 1\n", False),
+    ("lab", '0="init" 1="goal" 999999="x"\n0: 0\n2: 1\n', True),
+    ("lab", '0="init" 1="goal" 1000000="x"\n0: 0\n2: 1\n', False),
+    ("own", " ".join(f'{n}="p{n + 1}"' for n in range(64)) + "\n1: 1\n", True),
+    ("own", " ".join(f'{n}="p{n + 1}"' for n in range(65)) + "\n1: 1\n", False),
+    ("own", '0="p1" 1="p2" 2="%s"\n1: 1\n' % ("x" * 255), True),
+    ("own", '0="p1" 1="p2" 2="%s"\n1: 1\n' % ("x" * 256), False),
+    ("tra", NAMED_ACTIONS.replace("1 1 3 0.8 ", "1 1 3 0.800008 "), True),
+    ("tra", NAMED_ACTIONS.replace("1 1 3 0.8 ", "1 1 3 0.80001 "), True),
+    ("tra", NAMED_ACTIONS.replace("1 1 3 0.8 ", "1 1 3 0.800011 "), False),
+    ("tra", NAMED_ACTIONS.replace("1 1 3 0.8 ", "1 1 3 0.79999 "), True),
+    ("tra", NAMED_ACTIONS.replace("1 1 3 0.8 ", "1 1 3 0.799989 "), False),
+    ("tra", NAMED_ACTIONS.replace("4 6 9", "1000001 6 9"), False),
+    ("tra", NAMED_ACTIONS.replace("4 6 9", "4 4000001 9"), False),
+    ("tra", NAMED_ACTIONS.replace("4 6 9", "4 6 8000001"), False),
+]
 BYTES = "01 \t\n\r.:-=x\"/e"
 
 
@@ -281,13 +323,6 @@ def with_byte(draw, kind, text):
     return text[:place] + draw.choice((draw.choice(BYTES), "")) + text[place + draw.randrange(2) :]
 
 
-NAMED_ACTIONS = (
-    "4 6 9\n0 0 1 1 pass\n0 1 2 0.65 throw\n0 1 3 0.35 throw\n1 0 2 1/2\n1 0 3 5e-1\n"
-    "1 1 2 0.2 right\n1 1 3 0.8 right\n2 0 2 1\n3 0 3 1\n"
-)
-CHAIN = "4 5\n0 2 0.65\n0 3 0.35 gone\n1 1 1\n2 2 1\n3 3 1\n"
-
-
 @needs_program
 class Damaged(InFolder):
     """The program and the second audit refuse the same damaged texts, and write the same of the others."""
@@ -304,8 +339,7 @@ class Damaged(InFolder):
         }
         if kind == "tra" and chain:
             texts["cert"] = texts["cert"].replace("1 0.200000000000000 - 1 0.2", "1 0.000000000000000 - 1 0.0")
-        texts[kind] = damaged(draw, kind, texts[kind])
-        return texts
+        return {**texts, kind: damaged(draw, kind, texts[kind])} if kind else texts
 
     def compare(self, kind, texts):
         """Asks both, and gives the status."""
@@ -322,6 +356,13 @@ class Damaged(InFolder):
         else:
             self.assertEqual(output.replace(" reaudited ", " audited "), said)
         return status
+
+    def test_limits(self):
+        """In a model of other weights the certificate may be refused, which accepts the text."""
+        for kind, text, accepted in LIMITS:
+            with self.subTest(kind=kind, text=text[:200]):
+                texts = {**self.texts(None, random.Random(1)), "formula": FORMULA, kind: text}
+                self.assertEqual(self.compare(kind, texts) != 4, accepted)
 
     def test_each_kind(self):
         for kind in FIELDS:

@@ -1,0 +1,370 @@
+"""The second audit: it says what `stogame audit` says of the gallery's certificates, of a thousand that were changed,
+and of models and formulas that were damaged."""
+
+import contextlib
+import io
+import random
+import re
+import sys
+import unittest
+from functools import lru_cache
+from unittest import mock
+
+from certified_models import certified_models, certified_questions
+from trials import TOOLS, InFolder, load, needs_program, program, run
+
+CHANGED = 120
+DAMAGED = 200
+MOST_STATES = 400
+reaudit = load("reaudit")
+read_game = lru_cache(maxsize=None)(reaudit.read_game)
+
+GAME = (
+    "4 6 9\n0 0 1 1\n0 1 2 0.65\n0 1 3 0.35\n1 0 2 1/2\n1 0 3 5e-1\n1 1 2 0.2\n1 1 3 0.8\n2 0 2 1\n3 0 3 1\n",
+    '0="init" 1="goal"\n0: 0\n2: 1\n',
+    '0="p1" 1="p2"\n1: 1\n',
+)
+FORMULA = '<<p1>> P>=0.6 [ F "goal" ]'
+ENTRIES = [
+    "0 0.650000000000000 1 1 0.650000000000000 -",
+    "1 0.200000000000000 - 1 0.200000000000000 1",
+    "2 1.000000000000000 - 0 1.000000000000000 -",
+    "3 0.000000000000000 - 0 0.000000000000000 -",
+]
+
+# a formula, a line of the certificate and what stands there instead, and what is written
+WORKED = [
+    (FORMULA, 0, ENTRIES[0], "state 0 lower 0.650000000000000 upper 0.650000000000000 reaudited True"),
+    ('<<p1>> P>0.65 [ F "goal" ]', 0, ENTRIES[0],
+     "state 0 lower 0.650000000000000 upper 0.650000000000000 reaudited False"),
+    ('<<p1>> Pmax=? [ true U "goal" & !"init" ]', 0, ENTRIES[0],
+     "state 0 lower 0.650000000000000 upper 0.650000000000000 reaudited Bracket"),
+    ('<<p1>> P<1 [ G !"goal" ]', 0, ENTRIES[0],
+     "state 0 lower 0.350000000000000 upper 0.350000000000000 reaudited True"),
+    (FORMULA, 0, "0 0.500000000000000 1 1 0.700000000000000 -",
+     "state 0 lower 0.500000000000000 upper 0.700000000000000 reaudited Undecided"),
+    (FORMULA, 0, "0 0.650000000000000 0 1 0.650000000000000 -", "refused cert line 0 Short state 0 choice 0"),
+    (FORMULA, 0, "0 0.650000000000000 - 1 0.650000000000000 -", "refused cert line 0 Choice state 0"),
+    (FORMULA, 0, "0 0.650000000000000 1 1 0.640000000000000 -", "refused cert line 0 Above state 0 choice 1"),
+    (FORMULA, 1, "1 0.200000000000000 - 1 0.200000000000000 0", "refused cert line 0 Reply state 1"),
+    (FORMULA, 1, "1 0.200000000000000 - 1 0.100000000000000 1", "refused cert line 0 NoReply state 1"),
+    (FORMULA, 2, "2 1.000000000000000 - 0 0.900000000000000 -", "refused cert line 0 Goal state 2"),
+    (FORMULA, 2, "2 0.900000000000000 - 0 1.000000000000000 -", "refused cert line 0 Short state 0 choice 1"),
+    (FORMULA, 3, "3 0.100000000000000 0 0 1.000000000000000 0", "refused cert line 0 Above state 0 choice 1"),
+    (FORMULA, 3, "3 0.000000000000000 - 0 1.100000000000000 -", "refused cert line 5 NumberOutOfRange"),
+    (FORMULA, 3, "3 0.000000000000000 - 0 1.1 -", "refused cert line 5 BadLine"),
+    (FORMULA, 3, "", "refused cert line 5 MissingLine"),
+]
+
+
+def call(*words):
+    """Runs the tool in this process, and gives its status, output and errors."""
+    output, errors = io.StringIO(), io.StringIO()
+    asked = mock.patch.object(sys, "argv", ["reaudit", *words])
+    with asked, contextlib.redirect_stdout(output), contextlib.redirect_stderr(errors):
+        status = reaudit.main()
+    return status, output.getvalue(), errors.getvalue()
+
+
+class Worked(InFolder):
+    """Worked by hand over the game of two players."""
+
+    def words(self, formula):
+        names = [str(self.write(name, text)) for name, text in zip(("m.tra", "m.lab", "m.own"), GAME)]
+        return [*names[:2], formula, str(self.folder / "certificate"), "--own", names[2]]
+
+    def test_rows(self):
+        for formula, place, entry, line in WORKED:
+            with self.subTest(formula=formula, entry=entry):
+                entries = [*ENTRIES[:place], entry, *ENTRIES[place + 1 :]]
+                self.write("certificate", "certificate 2 4\n" + "\n".join(entries) + "\n")
+                _, output, errors = call(*self.words(formula))
+                self.assertEqual((output, errors), (line + "\n", ""))
+
+    def test_a_rank_that_does_not_fall(self):
+        """The maximiser may stay at state 0, or go to the goal, state 1:
+        only one of the choices of value 1 gets there."""
+        words = [
+            str(self.write("m.tra", "2 3 3\n0 0 0 1\n0 1 1 1\n1 0 1 1\n")),
+            str(self.write("m.lab", '0="init" 1="goal"\n0: 0\n1: 1\n')),
+        ]
+        for first, second, line in (
+            (
+                "1.000000000000 1 1",
+                "1.000000000000",
+                "state 0 lower 1.000000000000000 upper 1.000000000000000 reaudited Bracket",
+            ),
+            ("1.000000000000 0 1", "1.000000000000", "refused cert line 0 NoStep state 0 choice 0"),
+            ("0.000000000000 - 0", "0.900000000000", "refused cert line 0 Value state 1"),
+        ):
+            with self.subTest(line=line):
+                text = f"certificate 1 2\n0 {first} 1.000000000000 -\n1 {second} - 0 1.000000000000 -\n"
+                words[2:] = ['Pmax=? [ F "goal" ]', str(self.write("certificate", text))]
+                self.assertEqual(call(*words)[1], line + "\n")
+
+    def test_faults_name_file_and_line(self):
+        self.write("certificate", "certificate 2 4\n" + "\n".join(ENTRIES) + "\n")
+        words = self.words(FORMULA)
+        for place, text, said in (
+            (0, "4 6 9\n0 0 x 1\n", "line 2: 'x' is no whole number"),
+            (0, "1 1 1\n0 0 0 0.5\n", "line 0: the probabilities of state 0 choice 0 do not add up to 1"),
+            (0, "1 1 2\n0 0 0 1\n", "line 0: 1 lines; the header states 2"),
+            (0, "1 1 1\n0 0 -1 1\n", "line 2: '-1' is no whole number"),
+            (1, '0="init"\n0: 7\n', "line 2: 7 is no index of the header"),
+            (1, "x\n", "line 1: 'x' is no index and name"),
+        ):
+            with self.subTest(text=text):
+                changed = [*words[:place], str(self.write("changed", text)), *words[place + 1 :]]
+                self.assertEqual(call(*changed), (4, "", f"reaudit: {changed[place]}: {said}\n"))
+        for formula, said in (
+            ('P>=0.5 [ F "gaol" ]', 'there is no label "gaol"'),
+            ('P>=0.5 [ F xgoalx ]', "xgoalx in place of a label"),
+            ('P>=0.5 [ X "goal" ]', "X in place of a label"),
+            ('P>=0.5 [ F<=3 "goal" ]', "<= in place of a label"),
+            ('P<=2 [ F "goal" ]', "a threshold above 1"),
+            ('<<p3>> Pmax=? [ F "goal" ]', "a player of the coalition is not in the owner file"),
+            ('Pmax=? [ F ("goal" ]', "] in place of )"),
+            ("", "neither P with a threshold nor Pmax=? nor Pmin=?"),
+        ):
+            with self.subTest(formula=formula):
+                self.assertEqual(call(*self.words(formula)), (4, "", f"reaudit: formula: line 1: {said}\n"))
+
+    def test_other_endings(self):
+        words = self.words(FORMULA)
+        none = str(self.folder / "none")
+        said = f"reaudit: cannot read {none}: no such file or directory\n"
+        for place in (0, 1, 3, 5):
+            self.assertEqual(call(*words[:place], none, *words[place + 1 :]), (5, "", said))
+        self.assertEqual(call(*words[:3])[:2], (3, ""))
+        self.write("certificate", "certificate 2 4\n" + "\n".join(ENTRIES) + "\n")
+        command = " ".join(f"'{word}'" for word in (sys.executable, TOOLS / "reaudit", *words))
+        full = run("bash", "-c", f"{command} > /dev/full")
+        self.assertEqual(full, (6, "", "reaudit: cannot write the output: no storage space\n"))
+
+    def test_short_and_alone(self):
+        lines = (TOOLS / "reaudit").read_text().splitlines()
+        self.assertLessEqual(len(lines), 400)
+        others = {path.name.split(".")[0] for path in TOOLS.iterdir()} - {"reaudit"}
+        for line in lines:
+            found = re.match(r"(?:from|import) (\w+)", line)
+            self.assertFalse(found and found[1] in others, line)
+
+
+def question_of(one):
+    """A question as the second audit reads it; a game is read once for all that is asked of it."""
+    with mock.patch.object(reaudit, "read_game", read_game):
+        return reaudit.Question(*one.words[:3], one.words[4] if len(one.words) > 3 else None)
+
+
+def judged(question, text, path):
+    """What the second audit writes of a certificate for a question that was read."""
+    path.write_text(text, encoding="latin-1")
+    try:
+        entries = reaudit.entries_of(str(path), len(question.game))
+        reaudit.judge(question, entries)
+        return reaudit.report(question, entries)[1] + "\n"
+    except reaudit.Ended as ended:
+        return ended.args[1] + "\n"
+
+
+def changed_value(draw, field):
+    """A bound that is off by a unit, a few or many, or another text."""
+    units = int(field.replace(".", "")) + draw.choice((1, -1, 2, -3, 1000, -(10**9), 10**14))
+    return (
+        f"{abs(units) // 10**15}.{abs(units) % 10**15:015}"
+        if draw.random() < 0.9
+        else draw.choice(("1", "1.1", "-", "0.5", "1.000000000000001"))
+    )
+
+
+def changed_line(draw, line):
+    """A line of a state with another field."""
+    fields = line.split()
+    place = draw.randrange(len(fields))
+    if place in (1, 4):
+        fields[place] = changed_value(draw, fields[place])
+    else:
+        fields[place] = draw.choice(("-", "0", "1", "2", "00", "16384", "4294967296", "7", "x", ""))
+    return " ".join(fields)
+
+
+def changed(draw, lines, first):
+    """A certificate with a change: a field of a line, mostly;
+    else a line left out, twice there, or moved, or another head."""
+    lines, place = list(lines), draw.randrange(first + 1, len(lines))
+    kind = draw.random()
+    if kind < 0.85:
+        lines[place] = changed_line(draw, lines[place])
+    elif kind < 0.9:
+        del lines[draw.randrange(first, len(lines))]
+    elif kind < 0.95:
+        lines.insert(place, draw.choice((lines[place], "", "x", "\r")))
+    else:
+        lines[first] = draw.choice(
+            (
+                "certificate 1 7",
+                "certificate 3 4",
+                "certificate 02 4",
+                "certificate 2",
+                "certificate 2 x",
+                lines[first] + " 1",
+            )
+        )
+    return "\n".join(lines) + draw.choice(("\n", "", "\n\n", "\r\n", "\r"))
+
+
+# what takes the place of a field, a token or a byte of a text that is damaged
+FIELDS = {
+    "tra": [
+        "-1", "0", "1", "2", "3", "4", "0.5", "1/2", "1/0", "1e-24", ".5", "+1", "2.5", "1e100", "0x1", "16384",
+        "9999999999999999999999999999999", "0.499996", "0.4999", "1/3", "0.33333", "a", "throw", "1000001", "0:1",
+        "00", "\xb2", "0.5 jump", "1e-1000",
+    ],
+    "lab": [
+        '"goal"', '2="two"', '1="two"', '0="goal"', '3=""', '3="a"b"', "1", "2", "4", ":", "0:", "0:1", "-1", "x",
+        '1000000="far"', "00", "0:0 1", '5="init"', "\xb2",
+    ],
+    "own": [
+        '2="p3"', '1="p3"', '0="p2"', '3="3p"', "0", "1", "2", "4", ":", "1:", "1:0", "1:1 0", "1:1 1", "x",
+        '4="p 4"',
+    ],
+    "formula": [
+        "P", ">=", "<", "<=3", "=?", "Pmax", "Pmin", "[", "]", "(", ")", "!", "&", "|", "=>", "F", "G", "U", "X",
+        '"goal"', '"init"', '"gaol"', "goal", "true", "false", "0.5", "1", "2", "1/3", "3/2", "1e-24", "<<p1>>",
+        "<<p2,p1>>", "<<p3>>", "<<>>", "p1", ",", "P>0.5 [ F true ]", "\r", "\t", "\n", "\r\n", "\x0b", "\xe4",
+        "!!!!!!!!!!!!!!!!!!!!!!!!!!!!!!!!!!!!!!!!!!!!!!!!!!!!!!!!!!!!!!!!!", "/",
+    ],
+    "cert": [
+        "-", "0", "1", "x", "1.000000000000001", "0.5", "certificate", "16384", "4294967296", "",
+    ],
+}
+BYTES = "01 \t\n\r.:-=x\"/e"
+
+
+def damaged(draw, kind, text):
+    """A text with one to three faults, or what looks like one."""
+    for _ in range(draw.choice((1, 1, 1, 2, 3))):
+        text = draw.choice((with_field, with_field, with_line, with_byte))(draw, kind, text)
+    return text
+
+
+def with_field(draw, kind, text):
+    """Another field or token, or one more, or one less."""
+    parts = re.split(r"(\s+)", text)
+    place = 2 * draw.randrange((len(parts) + 1) // 2)
+    field = draw.choice(FIELDS[kind])
+    parts[place] = draw.choice((field, field, f"{parts[place]} {field}", f"{parts[place]}{field}", ""))
+    return "".join(parts)
+
+
+def with_line(draw, kind, text):
+    """A line left out, doubled, moved or blank, a text cut off, or other ends of lines."""
+    lines = text.split("\n")
+    place, other = draw.randrange(len(lines)), draw.randrange(len(lines))
+    change = draw.randrange(6)
+    if change == 0:
+        del lines[place]
+    elif change == 1:
+        lines.insert(other, lines[place])
+    elif change == 2:
+        lines[place], lines[other] = lines[other], lines[place]
+    elif change == 3:
+        lines.insert(place, draw.choice(("", " ", "\t", "\r")))
+    elif change == 4:
+        return text[: draw.randrange(len(text) + 1)]
+    return draw.choice(("\n", "\n", "\r\n")).join(lines)
+
+
+def with_byte(draw, kind, text):
+    """A byte more, less, or another."""
+    place = draw.randrange(len(text) + 1)
+    return text[:place] + draw.choice((draw.choice(BYTES), "")) + text[place + draw.randrange(2) :]
+
+
+NAMED_ACTIONS = (
+    "4 6 9\n0 0 1 1 pass\n0 1 2 0.65 throw\n0 1 3 0.35 throw\n1 0 2 1/2\n1 0 3 5e-1\n"
+    "1 1 2 0.2 right\n1 1 3 0.8 right\n2 0 2 1\n3 0 3 1\n"
+)
+CHAIN = "4 5\n0 2 0.65\n0 3 0.35 gone\n1 1 1\n2 2 1\n3 3 1\n"
+
+
+@needs_program
+class Damaged(InFolder):
+    """The program and the second audit refuse the same damaged texts, and write the same of the others."""
+
+    def texts(self, kind, draw):
+        """A model, a formula and a certificate that is right, of which one text is damaged; and the words."""
+        chain = kind == "tra" and draw.random() < 0.3
+        texts = {
+            "tra": CHAIN if chain else NAMED_ACTIONS,
+            "lab": GAME[1],
+            "own": GAME[2],
+            "formula": draw.choice((FORMULA, '<<p1>> Pmax=? [ true U "goal" & !"init" ]', '<<p1>> P<1 [ G !"goal" ]')),
+            "cert": "certificate 2 4\n" + "\n".join(ENTRIES) + "\n",
+        }
+        if kind == "tra" and chain:
+            texts["cert"] = texts["cert"].replace("1 0.200000000000000 - 1 0.2", "1 0.000000000000000 - 1 0.0")
+        texts[kind] = damaged(draw, kind, texts[kind])
+        return texts
+
+    def compare(self, kind, texts):
+        """Asks both, and gives the status."""
+        names = {one: str(self.folder / one) for one in texts if one != "formula"}
+        for one, name in names.items():
+            (self.folder / one).write_bytes(texts[one].encode("latin-1"))
+        words = [names["tra"], names["lab"], texts["formula"], names["cert"], "--own", names["own"]]
+        ended, said, _ = run(program(), "audit", *words)
+        status, output, errors = call(*words)
+        self.assertEqual(status, ended, (said, output, errors))
+        if status == 4:
+            place = "formula" if errors.startswith("reaudit: formula: ") else errors.split(": ")[1].rsplit("/", 1)[1]
+            self.assertIn(said.split()[1], ("formula", "question") if place == "formula" else (place,), errors)
+        else:
+            self.assertEqual(output.replace(" reaudited ", " audited "), said)
+        return status
+
+    def test_each_kind(self):
+        for kind in FIELDS:
+            draw, statuses = random.Random(kind), []
+            for number in range(DAMAGED):
+                texts = self.texts(kind, draw)
+                if not texts["formula"] or "\0" in texts["formula"] or texts["formula"].startswith("-"):
+                    continue
+                with self.subTest(kind=kind, number=number, text=texts[kind]):
+                    statuses.append(self.compare(kind, texts))
+            refused = sum(status in (4, 8) for status in statuses)
+            with self.subTest(kind=kind):
+                self.assertTrue(DAMAGED / 4 < refused < DAMAGED, refused)
+
+
+@needs_program
+class Alike(InFolder):
+    """The program and the second audit write the same, but for the word for it."""
+
+    def compare(self, one, question, text):
+        mine = judged(question, text, self.folder / "certificate")
+        words = [*one.words[:3], str(self.folder / "certificate"), *one.words[3:]]
+        _, output, errors = run(program(), "audit", *words)
+        self.assertEqual((mine.replace(" reaudited ", " audited "), errors), (output, ""), text[:300])
+        return output
+
+    def test_certificates_of_the_gallery(self):
+        for one in certified_questions():
+            with self.subTest(model=one.name, formula=one.words[2]):
+                self.assertIn(" audited ", self.compare(one, question_of(one), one.text))
+
+    def test_changed_ones(self):
+        draw = random.Random(17)
+        few = [one for one in certified_models() if one.states() <= MOST_STATES]
+        questions = [question_of(one) for one in few]
+        accepted = 0
+        for number in range(CHANGED):
+            place = number % len(few)
+            with self.subTest(number=number, model=few[place].name):
+                text = changed(draw, few[place].text.splitlines(), few[place].start)
+                accepted += " audited " in self.compare(few[place], questions[place], text)
+        self.assertTrue(CHANGED / 20 < accepted < CHANGED / 2, accepted)
+
+
+if __name__ == "__main__":
+    unittest.main()
