@@ -508,8 +508,9 @@ def read_owners(name, states):
 
 # Formulas
 
+BLANKS = re.compile(r"(?:[ \t\n]|\r\n)*")
 TOKEN = re.compile(
-    r"""\s*(?:(?P<word>[A-Za-z_][A-Za-z0-9_]*)
+    r"""(?:(?P<word>[A-Za-z_][A-Za-z0-9_]*)
           |(?P<number>[0-9](?:[eE][+-]|[A-Za-z0-9./])*)
           |"(?P<name>[!#-~]{1,255})"
           |(?P<sign><<|>>|>=|<=|=>|=\?|[><,\[\]()!&|])
@@ -537,8 +538,8 @@ class Parser:
 
     def move(self):
         """Takes the next token."""
-        self.start = self.end + len(self.text[self.end :]) - len(self.text[self.end :].lstrip(" \t\r\n"))
-        found = TOKEN.match(self.text, self.end)
+        self.start = BLANKS.match(self.text, self.end).end()
+        found = TOKEN.match(self.text, self.start)
         if not found:
             self.fail("no token of a formula")
         self.kind = found.lastgroup

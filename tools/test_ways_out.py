@@ -40,6 +40,12 @@ TABLE = """state,turn,over,owner,labels,lower,upper,mover,choice,action,rank
 3,2,true,p1,,0.000000000000000,0.000000000000000,maximiser,,,0
 """
 
+# the commands, each with as many words as it takes
+COMMANDS = {
+    "table": 1, "strategy": 1, "guarantee": 3, "properties": 3, "dossier": 3, "reaudit": 4,
+    "respell": 1, "owners": 2, "from_drn": 2, "measure": 0, "refuse_memory": 0,
+}
+
 # options behind the certificate, and what they write of the strategy
 WRITTEN = [
     (["--side", "maximiser", "--prism-actions"], "0:throw\n2:0\n3:0\n"),
@@ -263,9 +269,13 @@ class Small(InFolder):
                 self.assertEqual(call_tool("table", self.cert, "--sta", name)[2], f"table: {name}: {cause}\n")
 
     def test_help_and_closed_pipes(self):
-        for tool in ("table", "strategy", "guarantee", "properties", "dossier", "reaudit"):
+        for tool in COMMANDS:
             with self.subTest(tool=tool):
                 self.assertEqual(run_tool(tool, "--help")[0], 0)
+                said = f"{tool}: unrecognized arguments: --other; {tool} --help says more\n"
+                status, output, errors = run_tool(tool, *["x"] * COMMANDS[tool], "--other")
+                self.assertEqual((status, output), (3, ""))
+                self.assertTrue(errors == said or "are required" in errors, errors)
         self.write(
             "long",
             "certificate 2 20000\n" + "".join(
