@@ -3,9 +3,9 @@
 //! A game is made of choices ([`Choice::of_edges`]), all at once by [`Game::from_choices`] or one after another by a
 //! [`GameBuilder`]. [`Question::build`] asks of it with which probability a goal is reached. The definition of that
 //! value is in `specs/Values.antt`: whole numerators over one common denominator, by backward recursion over the number
-//! of steps. Only `reference_values` forms them, for tests. Programs compute with whole numbers of units, of which
-//! [`UNIT`] are probability 1, and `specs/Rounded.antt` has the Bellman operator over them. `specs/Bounds.antt` says
-//! what a sound lower and a sound upper table are, and [`laws`] has the laws of the values.
+//! of steps. No program forms them: programs compute with whole numbers of units, of which [`UNIT`] are probability 1,
+//! and `specs/Rounded.antt` has the Bellman operator over them. `specs/Bounds.antt` says what a sound lower and a sound
+//! upper table are, and [`laws`] has the laws of the values.
 #![tactic(auto)]
 
 mod builder;

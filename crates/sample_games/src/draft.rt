@@ -126,7 +126,7 @@ pub fn game_of(alloc: Global, states: &[&[&[(u32, u64)]]]) -> Result<Game, Fail>
 }
 
 /// The edges of a choice by rising successor, the parts of one successor as one.
-pub fn merged(alloc: Global, parts: &[(u32, u64)]) -> Option<Vec<(u32, u64)>> {
+pub(crate) fn merged(alloc: Global, parts: &[(u32, u64)]) -> Option<Vec<(u32, u64)>> {
     let mut sorted = parts.to_vec(alloc).ok()?;
     sorted.sort().ok()?;
     let mut edges: Vec<(u32, u64)> = Vec::new(alloc);
@@ -175,7 +175,7 @@ fn choice(alloc: Global, states: u32, edges: &[(u32, u64)]) -> Option<Choice>
 }
 
 /// The question that these lists pose, where they are long enough and no state is both goal and dead.
-pub fn question(
+pub(crate) fn question(
     game: &Game,
     sides: Vec<Side>,
     goal: Vec<bool>,

@@ -3,7 +3,7 @@
 //! An assertion ends the process, and each one is proved with its text at the place where it stands. These are proved
 //! once; a test hands their errors on with `?`, and with them the words that tell its rows apart.
 
-ghost use Rattle.std.specs.Prelude.{◌≡◌, ◌↔◌, ◌<◌, IsOk, IsTrue, true};
+ghost use Rattle.std.specs.Prelude.{◌≡◌, ◌↔◌, IsOk, IsTrue, true};
 
 use std::fmt::{Debug, Display};
 use std::test::Fail;
@@ -32,14 +32,4 @@ pub fn holds<D: Display + Drop>(what: D, fact: bool) -> Result<(), Fail>
     } else {
         Err(Fail::new(format_args!("not so: {what}")))
     }
-}
-
-/// Ok where there are more than so many, so that comparisons over random games show something; else how many there are.
-pub fn are_more(what: &str, count: u32, than: u32) -> Result<(), Fail>
-    ensures { IsOk result ↔ than < count }
-{
-    holds(
-        format_args!("more than {than} {what}: {count}"),
-        count > than,
-    )
 }

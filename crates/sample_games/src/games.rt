@@ -61,34 +61,3 @@ pub fn one_state(alloc: Global) -> Result<Game, Fail>
 {
     game_of(alloc, &[&[&[(0, 1)]]])
 }
-
-/// State 0 stays or goes to 1 with 1/2 each; 1 and 2 stay.
-pub fn coin(alloc: Global) -> Result<Game, Fail>
-    ensures { IfOk result (λ game. length game ≡ 3) }
-{
-    game_of(alloc, &[&[&[(0, 1), (1, 1)]], &[&[(1, 1)]], &[&[(2, 1)]]])
-}
-
-/// State 0 stays, or goes to 1 and 2 with 1/2 each; 1 and 2 stay.
-pub fn wait_or_coin(alloc: Global) -> Result<Game, Fail>
-    ensures { IfOk result (λ game. length game ≡ 3) }
-{
-    game_of(
-        alloc,
-        &[&[&[(0, 1)], &[(1, 1), (2, 1)]], &[&[(1, 1)]], &[&[(2, 1)]]],
-    )
-}
-
-/// Each state goes on to the next one, or falls back to the first with 1/3, or half of the way with 3/7; the last one
-/// stays or falls back.
-pub fn ladder(alloc: Global, count: u32) -> Result<Game, Fail>
-    ensures { IfOk result (λ game. length game ≡ count) }
-{
-    let mut draft = Draft::new(alloc, count);
-    for state in 0..count {
-        let next = (state + 1).min(count - 1);
-        let (first, second) = ([(0, 1), (next, 2)], [(state / 2, 3), (next, 4)]);
-        draft.two(alloc, &first, &second).ok_or("no state")?;
-    }
-    draft.game_with(alloc, count as usize)
-}

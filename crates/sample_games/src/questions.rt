@@ -5,8 +5,8 @@ ghost use Rattle.std.specs.Prelude.{◌≡◌, ◌≢◌, ℕ, ◌<◌, length, 
 use game_model::{Game, Question, Side};
 use std::alloc::{AllocError, Global};
 
-/// One side at all states.
-pub fn all_of(alloc: Global, side: Side, states: u32) -> Result<Vec<Side>, AllocError>
+// One side at all states.
+fn all_of(alloc: Global, side: Side, states: u32) -> Result<Vec<Side>, AllocError>
     ensures { IfOk result (λ sides. length sides.items ≡ states) }
 {
     let mut sides = Vec::new(alloc);
@@ -16,7 +16,7 @@ pub fn all_of(alloc: Global, side: Side, states: u32) -> Result<Vec<Side>, Alloc
     Ok(sides)
 }
 
-/// The minimiser at one state, the maximiser at the others.
+// The minimiser at one state, the maximiser at the others.
 fn least_at(alloc: Global, place: u32, states: u32) -> Result<Vec<Side>, AllocError>
     requires { place < states }
     ensures { IfOk result (λ sides. length sides.items ≡ states) }
@@ -26,8 +26,8 @@ fn least_at(alloc: Global, place: u32, states: u32) -> Result<Vec<Side>, AllocEr
     Ok(sides)
 }
 
-/// The marks of one state alone; of none where it is past the last.
-pub fn only(alloc: Global, marked: u32, states: u32) -> Result<Vec<bool>, AllocError>
+// The marks of one state alone; of none where it is past the last.
+fn only(alloc: Global, marked: u32, states: u32) -> Result<Vec<bool>, AllocError>
     ensures many { IfOk result (λ marks. length marks.items ≡ states) }
     ensures marks { IfOk result (λ marks. (s : ℕ) → slice_index_or marks.items s false ≡ true → s ≡ marked) }
 {
@@ -38,8 +38,8 @@ pub fn only(alloc: Global, marked: u32, states: u32) -> Result<Vec<bool>, AllocE
     Ok(marks)
 }
 
-/// Marks of no state.
-pub fn none_of(alloc: Global, states: u32) -> Result<Vec<bool>, AllocError>
+// Marks of no state.
+fn none_of(alloc: Global, states: u32) -> Result<Vec<bool>, AllocError>
     ensures many { IfOk result (λ marks. length marks.items ≡ states) }
     ensures none { IfOk result (λ marks. All (λ b. b ≡ false) marks.items) }
 {
@@ -64,9 +64,9 @@ pub fn question_of(
     question_of_sides(alloc, game, sides, goal)
 }
 
-/// How likely is this goal reached, where these sides choose? None is dead, and none is a goal where it is past the
-/// last.
-pub fn question_of_sides(
+// How likely is this goal reached, where these sides choose? None is dead, and none is a goal where it is past the
+// last.
+fn question_of_sides(
     alloc: Global,
     game: &Game,
     sides: Vec<Side>,

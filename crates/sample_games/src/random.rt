@@ -1,9 +1,9 @@
-//! Random small games and questions about them, the same for the same seed.
+//! Random small games, the same for the same seed.
 
 ghost use Rattle.std.specs.Prelude.{◌<◌, ◌≤◌};
 
-use crate::draft::{Draft, Lists, merged};
-use game_model::{Game, Question, Side};
+use crate::draft::{Draft, merged};
+use game_model::Game;
 use std::alloc::Global;
 
 /// Numbers that are drawn one after another (a linear congruential generator: Knuth, The Art of Computer Programming,
@@ -53,16 +53,6 @@ pub struct Shape {
     pub most_tosses: u32,
 }
 
-/// Small games of all kinds.
-pub const SMALL: Shape = Shape {
-    least_states: 1,
-    most_states: 7,
-    most_choices: 3,
-    most_successors: 3,
-    most_weight: 9,
-    most_tosses: 21,
-};
-
 /// A random game.
 pub fn random_game(alloc: Global, draw: &mut Draw, shape: &Shape) -> Option<Game> {
     let states = draw.between(shape.least_states, shape.most_states);
@@ -99,8 +89,8 @@ fn add_state(
     Some(left)
 }
 
-/// The edges of a choice with at most so many successors.
-pub fn random_edges(
+// The edges of a choice with at most so many successors.
+fn random_edges(
     alloc: Global,
     draw: &mut Draw,
     shape: &Shape,
@@ -114,22 +104,4 @@ pub fn random_edges(
         parts.push((to, u64::from(weight))).ok()?;
     }
     merged(alloc, &parts)
-}
-
-/// A random question about a game: sides, one goal or more, and perhaps dead states.
-pub fn random_question<'g>(alloc: Global, draw: &mut Draw, game: &'g Game) -> Option<Question<'g>> {
-    let states = game.states();
-    let first = draw.between(0, states.saturating_sub(1));
-    let mut lists = Lists::new(alloc);
-    for state in 0..states {
-        let side = if draw.between(0, 1) == 0 {
-            Side::Max
-        } else {
-            Side::Min
-        };
-        let mark = draw.between(0, 5);
-        let is_goal = state == first || mark == 0;
-        lists.add(side, is_goal, mark == 1 && !is_goal)?;
-    }
-    lists.question(game)
 }

@@ -8,22 +8,6 @@ use std::alloc::Global;
 use std::test::Fail;
 use text_lines::MOST_BYTES;
 
-// Texts that give three states no labels, each with its fault.
-const REFUSED: &[(&str, u32, LabCause)] = &[
-    ("", 1, LabCause::NoHeader),
-    ("0=init", 1, LabCause::BadHeader),
-    ("0=\"a\" 1=\"a\"", 1, LabCause::DoubleName),
-    ("0=\"a\" 00=\"a\"", 1, LabCause::DoubleIndex),
-    ("1000000=\"a\"", 1, LabCause::OverLimit),
-    ("0=\"a\"\n\n0: 0", 2, LabCause::BadField),
-    ("0=\"a\"\n3: 0", 2, LabCause::StateOutOfRange),
-    ("0=\"a\"\n0: 0\n1: 7", 3, LabCause::UnknownIndex),
-    ("0=\"a\"\n0 0", 2, LabCause::BadField),
-    ("0=\"a\"\n3: 7 x", 2, LabCause::BadField),
-    ("0=\"a\"\n3: 7", 2, LabCause::StateOutOfRange),
-    ("0=\"a\"\n0: 7 x", 2, LabCause::BadField),
-];
-
 // The labels of three states in a text.
 fn labels_of(alloc: Global, text: &[u8]) -> Result<Labels, Fail>
     ensures { IfOk result (λ labels. labels.states ≡ 3) }
@@ -58,24 +42,6 @@ fn labels_add_up_in_any_order(rt: HostRuntime) -> Result<(), Fail> {
     are_as_said(rt.alloc(), &labels)
 }
 
-// The fault of a text of the labels of three states.
-fn fault_of(alloc: Global, text: &[u8]) -> Option<LabFault> {
-    if text.len() > MOST_BYTES {
-        return None;
-    }
-    read_labels(alloc, text, 3).err()
-}
-
-#[test]
-fn the_first_fault_is_named_with_its_line(rt: HostRuntime) -> Result<(), Fail> {
-    for (text, line, cause) in REFUSED {
-        let (line, cause) = (*line, *cause);
-        let fault = fault_of(rt.alloc(), text.as_bytes());
-        same(text, fault, Some(LabFault { line, cause }))?;
-    }
-    Ok(())
-}
-
 // A text of the owners of three states is refused in this line.
 fn is_refused(alloc: Global, text: &[u8], line: u32, cause: LabCause) -> Result<(), Fail> {
     if text.len() > MOST_BYTES {
@@ -106,8 +72,6 @@ fn owners_are_read(rt: HostRuntime) -> Result<(), Fail> {
     let alloc = rt.alloc();
     let two = LabCause::TwoOwners { state: 1 };
     is_refused(alloc, b"0=\"p1\" 1=\"p2\"\n1: 0\n1: 1\n", 3, two)?;
-    let unknown = LabCause::UnknownIndex;
-    is_refused(alloc, b"0=\"p1\" 1=\"p2\"\n1: 0 1 7\n", 2, unknown)?;
     one_owns_all(alloc)?;
     let owners = owners_of(alloc, b"0=\"p1\" 1=\"p2\"\n1: 1 1\n1: 1\n2:\n")?;
     same(

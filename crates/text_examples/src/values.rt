@@ -24,36 +24,6 @@ const READ: [(&str, [f64; 3]); 14] = [
     ("0=nan\n1=9e999\n2=-0.5", [0.0, 1.0, 0.0]),
 ];
 
-// Texts that have none, each with its first fault.
-const REFUSED: [(&str, u32, ValuesCause); 22] = [
-    ("", 0, ValuesCause::LineCount),
-    (" \n\n", 0, ValuesCause::LineCount),
-    ("0.5\n1\n", 0, ValuesCause::LineCount),
-    ("0\n0\n0\n0\n", 0, ValuesCause::LineCount),
-    ("0\n0\n0\n0\nx\n", 5, ValuesCause::BadField),
-    ("0.5\n\nx\n1\n", 3, ValuesCause::BadField),
-    ("0.5 0.5\n1\n0\n", 1, ValuesCause::BadField),
-    ("0.5\n1=1\n0\n", 2, ValuesCause::BadField),
-    ("0=0.5\n0.5\n", 2, ValuesCause::BadField),
-    ("1e\n", 1, ValuesCause::BadField),
-    ("0x1\n", 1, ValuesCause::BadField),
-    ("-1/3\n", 1, ValuesCause::BadField),
-    ("=1\n", 1, ValuesCause::BadField),
-    ("0=\n", 1, ValuesCause::BadField),
-    ("0=1=1\n", 1, ValuesCause::BadField),
-    ("(0=1\n", 1, ValuesCause::BadField),
-    ("0:(0,1=1\n", 1, ValuesCause::BadField),
-    ("0 1=1\n", 1, ValuesCause::BadField),
-    ("3=0.5\n", 1, ValuesCause::StateOutOfRange),
-    (
-        "1=1\n99999999999999999999=1\n",
-        2,
-        ValuesCause::StateOutOfRange,
-    ),
-    ("1=0\n\n01:1\n", 3, ValuesCause::DoubleState),
-    ("1=0\n(1)=0\n9=0\n", 2, ValuesCause::DoubleState),
-];
-
 // What a text comes to as values of three states.
 fn read(alloc: Global, text: &str) -> Result<Result<Vec<f64>, ValuesEnd>, Fail> {
     let bytes = text.as_bytes();
@@ -71,12 +41,6 @@ fn has(alloc: Global, text: &str, wanted: &[f64; 3]) -> Result<(), Fail> {
     }
 }
 
-// A text has this fault.
-fn is_refused(alloc: Global, text: &str, fault: ValuesFault) -> Result<(), Fail> {
-    let end = read(alloc, text)?.err();
-    same(text, end, Some(ValuesEnd::Refused(fault)))
-}
-
 #[test]
 fn values_are_read(rt: HostRuntime) -> Result<(), Fail> {
     for (text, wanted) in &READ {
@@ -86,10 +50,11 @@ fn values_are_read(rt: HostRuntime) -> Result<(), Fail> {
 }
 
 #[test]
-fn faults_of_values_are_told_by_line_and_cause(rt: HostRuntime) -> Result<(), Fail> {
-    for (text, line, cause) in &REFUSED {
-        let (line, cause) = (*line, *cause);
-        is_refused(rt.alloc(), text, ValuesFault { line, cause })?;
-    }
-    Ok(())
+fn a_fault_of_values_is_told_by_line_and_cause(rt: HostRuntime) -> Result<(), Fail> {
+    let end = read(rt.alloc(), "1=0\n\n01:1\n")?.err();
+    let twice = ValuesFault {
+        line: 3,
+        cause: ValuesCause::DoubleState,
+    };
+    same("fault", end, Some(ValuesEnd::Refused(twice)))
 }

@@ -6,10 +6,10 @@ use std::alloc::Global;
 use std::test::Fail;
 
 /// The name of the certificate's file.
-pub(crate) const CERTIFICATE: &str = "c";
+pub const CERTIFICATE: &str = "c";
 
 /// The name of the file of values to begin with.
-pub(crate) const VALUES: &str = "v";
+pub const VALUES: &str = "v";
 
 // Adds the words that name the file of owners, where the row has one.
 fn add_owners(alloc: Global, owned: &mut Vec<String>, row: Row<'_>) -> Result<(), Fail> {
@@ -27,19 +27,19 @@ fn question_words(alloc: Global, command: &str, row: Row<'_>) -> Result<Vec<Stri
 }
 
 /// The words that check a row.
-pub(crate) fn check_words(alloc: Global, row: Row<'_>) -> Result<Vec<String>, Fail> {
+pub fn check_words(alloc: Global, row: Row<'_>) -> Result<Vec<String>, Fail> {
     let mut owned = question_words(alloc, "check", row)?;
     add_words(alloc, &mut owned, row.numbers)?;
     Ok(owned)
 }
 
 /// The words that ask a row for its almost-sure states.
-pub(crate) fn sure_words(alloc: Global, row: Row<'_>) -> Result<Vec<String>, Fail> {
+pub fn sure_words(alloc: Global, row: Row<'_>) -> Result<Vec<String>, Fail> {
     question_words(alloc, "sure", row)
 }
 
 /// The words that audit a certificate for the model and the formula of a row.
-pub(crate) fn audit_words(alloc: Global, row: Row<'_>) -> Result<Vec<String>, Fail> {
+pub fn audit_words(alloc: Global, row: Row<'_>) -> Result<Vec<String>, Fail> {
     let mut owned = words(
         alloc,
         &["audit", "m.tra", "m.lab", row.formula, CERTIFICATE],
@@ -49,11 +49,7 @@ pub(crate) fn audit_words(alloc: Global, row: Row<'_>) -> Result<Vec<String>, Fa
 }
 
 /// The words that solve a row, from a file of values where there is one.
-pub(crate) fn solve_words(
-    alloc: Global,
-    row: Row<'_>,
-    values: Option<&str>,
-) -> Result<Vec<String>, Fail> {
+pub fn solve_words(alloc: Global, row: Row<'_>, values: Option<&str>) -> Result<Vec<String>, Fail> {
     let mut owned = question_words(alloc, "solve", row)?;
     if values.is_some() {
         add_words(alloc, &mut owned, &["--values", VALUES])?;
@@ -63,7 +59,7 @@ pub(crate) fn solve_words(
 }
 
 /// The files of a row, and one of this name where there is a text for it.
-pub(crate) fn files_with(
+pub fn files_with(
     alloc: Global,
     row: Row<'_>,
     name: &str,

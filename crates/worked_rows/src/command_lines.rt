@@ -39,139 +39,31 @@ fn lists_write<R: Threads + Sync>(
     Ok(())
 }
 
-// None of these lists of words denotes a command.
-fn usage<R: Threads + Sync>(rt: &R, alloc: Global, lists: &[&[&str]]) -> Result<(), Fail> {
-    lists_write(rt, alloc, lists, USAGE, Status::Usage)
-}
-
-// `check` with the files, the formula and these words behind them is no command.
-fn usage_behind<R: Threads + Sync>(rt: &R, alloc: Global, lists: &[&[&str]]) -> Result<(), Fail> {
-    for behind in lists {
-        let mut given = Vec::new(alloc);
-        given.extend_from_slice(&["check", "m.tra", "m.lab", REACH])?;
-        given.extend_from_slice(behind)?;
-        writes(rt, alloc, &given, USAGE, Status::Usage)?;
-    }
-    Ok(())
-}
-
-const MISSING_OR_SURPLUS: &[&[&str]] = &[
+// A missing word, a surplus one, an unknown option, one that stands twice, a value that is missing or too many, and
+// numbers out of range.
+const NO_COMMAND: &[&[&str]] = &[
     &[],
-    &[""],
-    &["check"],
     &["m.tra", "m.lab", REACH],
-    &["audit", "m.tra", "m.lab", REACH],
-    &["--plan", "check", "m.tra", "m.lab", REACH],
     &["check", "m.tra", "m.lab"],
-    &["check", "m.tra", "m.lab", "--plan", "--"],
-    &["check", "", "m.lab", REACH],
     &["check", "m.tra", "", REACH],
-    &["check", "--", "m.tra", "", REACH],
-];
-
-const SURPLUS: &[&[&str]] = &[&["more"], &[""], &["--", "--plan"]];
-
-#[test]
-fn a_missing_or_surplus_word_gives_the_usage_line(rt: HostRuntime) -> Result<(), Fail> {
-    usage(&rt, rt.alloc(), MISSING_OR_SURPLUS)?;
-    usage_behind(&rt, rt.alloc(), SURPLUS)
-}
-
-const UNKNOWN_OPTIONS: &[&[&str]] = &[
-    &["--help"],
-    &["-h"],
-    &["--version"],
-    &["-p"],
-    &["--pla"],
-    &["--plans"],
-    &["--Plan"],
-    &["-plan"],
-    &["--="],
-    &["---"],
-    &["-="],
-    &["-1"],
-];
-
-const UNKNOWN_OPTIONS_IN_FRONT: &[&[&str]] = &[
-    &["check", "-m.tra", "m.lab", REACH],
-    &["check", "--help"],
+    &["check", "m.tra", "m.lab", REACH, "more"],
+    &["check", "m.tra", "m.lab", REACH, "--help"],
+    &[
+        "check", "m.tra", "m.lab", REACH, "--rounds", "1", "--rounds", "2",
+    ],
+    &["check", "m.tra", "m.lab", REACH, "--rounds", "+x"],
+    &["check", "m.tra", "m.lab", REACH, "--own="],
+    &["check", "m.tra", "m.lab", REACH, "--plan=true"],
+    &["check", "m.tra", "m.lab", REACH, "--rounds", "1000001"],
+    &["check", "m.tra", "m.lab", REACH, "--workers", "0"],
+    &["check", "m.tra", "m.lab", REACH, "--workers", "65"],
+    &["audit", "m.tra", "m.lab", REACH],
+    &["audit", "m.tra", "m.lab", REACH, "c", "--plan"],
 ];
 
 #[test]
-fn an_unknown_option_gives_the_usage_line(rt: HostRuntime) -> Result<(), Fail> {
-    usage_behind(&rt, rt.alloc(), UNKNOWN_OPTIONS)?;
-    usage(&rt, rt.alloc(), UNKNOWN_OPTIONS_IN_FRONT)
-}
-
-const GIVEN_TWICE: &[&[&str]] = &[
-    &["--rounds", "1", "--rounds", "2"],
-    &["--rounds=1", "--rounds=1"],
-    &["--workers", "1", "--workers=1"],
-    &["--own", "m.own", "--own", "m.own"],
-    &["--plan", "--plan"],
-];
-
-#[test]
-fn an_option_given_twice_gives_the_usage_line(rt: HostRuntime) -> Result<(), Fail> {
-    usage_behind(&rt, rt.alloc(), GIVEN_TWICE)
-}
-
-const VALUES: &[&[&str]] = &[
-    &["--plan=yes"],
-    &["--plan=true"],
-    &["--plan="],
-    &["--plan", "true"],
-    &["--rounds"],
-    &["--own"],
-    &["--own", ""],
-    &["--own="],
-    &["--own", "--plan"],
-    &["--own", "--"],
-    &["--own", "m.own", "m.own"],
-];
-
-const VALUE_MISSING_IN_FRONT: &[&[&str]] = &[&["check", "m.tra", "m.lab", "--own", "--", REACH]];
-
-#[test]
-fn a_value_that_is_missing_or_too_many_gives_the_usage_line(rt: HostRuntime) -> Result<(), Fail> {
-    usage_behind(&rt, rt.alloc(), VALUES)?;
-    usage(&rt, rt.alloc(), VALUE_MISSING_IN_FRONT)
-}
-
-const OUT_OF_RANGE: &[&[&str]] = &[
-    &["--rounds", "1000001"],
-    &["--rounds", "4294967296"],
-    &["--rounds", "99999999999999999999"],
-    &["--rounds", "-0"],
-    &["--rounds", "-5"],
-    &["--rounds", ""],
-    &["--rounds", "-"],
-    &["--rounds", "+"],
-    &["--rounds", "+x"],
-    &["--rounds", "++1"],
-    &["--rounds", "1.0"],
-    &["--rounds", "1 "],
-    &["--rounds", " 1"],
-    &["--rounds", "0x1"],
-    &["--rounds", "1e3"],
-    &["--rounds=1000001"],
-    &["--rounds=-0"],
-    &["--rounds=-1"],
-    &["--rounds="],
-    &["--rounds==1"],
-    &["--workers=0"],
-    &["--workers=65"],
-    &["--workers=-0"],
-    &["--workers", "0"],
-    &["--workers", "65"],
-    &["--workers", "+"],
-    &["--workers", "000"],
-    &["--workers", "4294967297"],
-];
-
-#[test]
-fn a_number_out_of_range_gives_the_usage_line(rt: HostRuntime) -> Result<(), Fail> {
-    usage_behind(&rt, rt.alloc(), OUT_OF_RANGE)
+fn other_words_give_the_usage_line(rt: HostRuntime) -> Result<(), Fail> {
+    lists_write(&rt, rt.alloc(), NO_COMMAND, USAGE, Status::Usage)
 }
 
 const ANYWHERE: &[&[&str]] = &[
@@ -295,51 +187,6 @@ fn a_run_of_no_rounds_has_its_certificate(rt: HostRuntime) -> Result<(), Fail> {
     writes(&rt, rt.alloc(), &given, text, Status::Fine)
 }
 
-const OTHER_WORDS_OF_AUDIT: &[&[&str]] = &[
-    &["audit"],
-    &["audit", "m.tra", "m.lab", REACH],
-    &["audit", "m.tra", "m.lab", REACH, ""],
-    &["audit", "m.tra", "m.lab", REACH, "c", "more"],
-    &["audit", "m.tra", "m.lab", REACH, "c", ""],
-    &["audit", "", "m.lab", REACH, "c"],
-    &["audit", "m.tra", "", REACH, "c"],
-    &["audit", "m.tra", "m.lab", REACH, "-c"],
-    &["audit", "m.tra", "m.lab", REACH, "c", "--rounds", "5"],
-    &["audit", "m.tra", "m.lab", REACH, "c", "--rounds=5"],
-    &["audit", "m.tra", "m.lab", REACH, "c", "--workers", "1"],
-    &["audit", "m.tra", "m.lab", REACH, "c", "--workers=1"],
-    &["audit", "m.tra", "m.lab", REACH, "c", "--plan"],
-    &["audit", "m.tra", "m.lab", REACH, "--plan"],
-    &["audit", "m.tra", "m.lab", REACH, "--certificate", "c"],
-    &[
-        "audit", "m.tra", "m.lab", REACH, "c", "--own", "m.own", "--own", "m.own",
-    ],
-    &[
-        "audit",
-        "m.tra",
-        "m.lab",
-        REACH,
-        "c",
-        "--own=m.own",
-        "--own=m.own",
-    ],
-    &["audit", "m.tra", "m.lab", REACH, "c", "--own"],
-    &["audit", "m.tra", "m.lab", REACH, "c", "--own", ""],
-    &["audit", "m.tra", "m.lab", REACH, "c", "--own="],
-    &["audit", "m.tra", "m.lab", REACH, "--own", "c"],
-    &[
-        "audit", "m.tra", "m.lab", REACH, "c", "--", "--own", "m.own",
-    ],
-    &["audit", "m.tra", "m.lab", REACH, "c", "--help"],
-    &["audit", "m.tra", "m.lab", REACH, "c", "-h"],
-    &["--own", "m.own", "audit", "m.tra", "m.lab", REACH, "c"],
-];
-
-#[test]
-fn an_audit_with_other_words_gives_the_usage_line(rt: HostRuntime) -> Result<(), Fail> {
-    usage(&rt, rt.alloc(), OTHER_WORDS_OF_AUDIT)
-}
-
 const WORDS_OF_AUDIT: &[&[&str]] = &[
     &["audit", "m.tra", "m.lab", REACH, "c"],
     &["audit", "--own", "m.own", "m.tra", "m.lab", REACH, "c"],
@@ -353,11 +200,4 @@ const WORDS_OF_AUDIT: &[&[&str]] = &[
 fn an_audit_takes_four_words_and_an_owner_file(rt: HostRuntime) -> Result<(), Fail> {
     let report = "state 0 lower 0.500000000000000 upper 0.500000000000000 audited Bracket\n";
     lists_write(&rt, rt.alloc(), WORDS_OF_AUDIT, report, Status::Fine)
-}
-
-#[test]
-fn an_empty_formula_of_an_audit_is_refused_by_the_run(rt: HostRuntime) -> Result<(), Fail> {
-    let given: &[&str] = &["audit", "m.tra", "m.lab", "", "c"];
-    let text = "refused formula place 0 End\n";
-    writes(&rt, rt.alloc(), given, text, Status::ModelRefused)
 }

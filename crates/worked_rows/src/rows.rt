@@ -75,11 +75,7 @@ pub fn words(alloc: Global, words: &[&str]) -> Result<Vec<String>, Fail> {
 }
 
 /// Adds these words.
-pub(crate) fn add_words(
-    alloc: Global,
-    owned: &mut Vec<String>,
-    words: &[&str],
-) -> Result<(), Fail> {
+pub fn add_words(alloc: Global, owned: &mut Vec<String>, words: &[&str]) -> Result<(), Fail> {
     for word in words {
         owned.push(String::from_str(alloc, word)?)?;
     }

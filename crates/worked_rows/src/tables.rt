@@ -10,10 +10,10 @@ use std::thread::Threads;
 use stogame_app::Status;
 
 /// A formula, the end of the text that it gives, and how the command ends.
-pub(crate) type Answer<'a> = (&'a str, &'a str, Status);
+pub type Answer<'a> = (&'a str, &'a str, Status);
 
 /// A command that prints a certificate, the row for which that is audited, and the text and the end of the audit.
-pub(crate) type Audited<'a> = (Command<'a>, Row<'a>, &'a str, Status);
+pub type Audited<'a> = (Command<'a>, Row<'a>, &'a str, Status);
 
 // How a command ends over a shelf and a sink that never fail, and what it writes.
 fn printed<R: Threads + Sync>(
@@ -27,7 +27,7 @@ fn printed<R: Threads + Sync>(
 }
 
 /// The command over a shelf and a sink that never fail writes this text and ends with this status.
-pub(crate) fn prints<R: Threads + Sync>(
+pub fn prints<R: Threads + Sync>(
     rt: &R,
     alloc: Global,
     command: Command<'_>,
@@ -46,7 +46,7 @@ pub(crate) fn prints<R: Threads + Sync>(
 }
 
 /// The row is refused with this line.
-pub(crate) fn refuses<R: Threads + Sync>(
+pub fn refuses<R: Threads + Sync>(
     rt: &R,
     alloc: Global,
     row: Row<'_>,
@@ -56,7 +56,7 @@ pub(crate) fn refuses<R: Threads + Sync>(
 }
 
 /// The certificate is refused with this line and cause.
-pub(crate) fn audit_refuses<R: Threads + Sync>(
+pub fn audit_refuses<R: Threads + Sync>(
     rt: &R,
     alloc: Global,
     row: Row<'_>,
@@ -75,11 +75,7 @@ pub(crate) fn audit_refuses<R: Threads + Sync>(
 }
 
 /// Each case over a shelf and a sink that never fail writes its text and ends with its status.
-pub(crate) fn all_write<R: Threads + Sync>(
-    rt: &R,
-    alloc: Global,
-    cases: &[Case<'_>],
-) -> Result<(), Fail> {
+pub fn all_write<R: Threads + Sync>(rt: &R, alloc: Global, cases: &[Case<'_>]) -> Result<(), Fail> {
     for case in cases {
         prints(rt, alloc, case.command, case.text, case.status)?;
     }
@@ -88,7 +84,7 @@ pub(crate) fn all_write<R: Threads + Sync>(
 
 /// The command, asked each of these formulas in place of its own, writes this front, the end that stands beside the
 /// formula, and LF.
-pub(crate) fn answers_write<R: Threads + Sync>(
+pub fn answers_write<R: Threads + Sync>(
     rt: &R,
     alloc: Global,
     command: Command<'_>,
@@ -118,7 +114,7 @@ fn audit_prints<R: Threads + Sync>(
 }
 
 /// What each of these commands prints is audited, for the row beside it, with the text and the end beside that.
-pub(crate) fn printed_are_audited<R: Threads + Sync>(
+pub fn printed_are_audited<R: Threads + Sync>(
     rt: &R,
     alloc: Global,
     table: &[Audited<'_>],

@@ -1,0 +1,35 @@
+//! The transition file of the coin loop, cut after each byte.
+
+use game_outside::OpenGate;
+use sample_games::expectations::same;
+use std::alloc::Global;
+use std::str::from_utf8;
+use std::test::Fail;
+use std::thread::Threads;
+use stogame_app::Status;
+use worked_rows::{COIN_LOOP, COIN_LOOP_REPORT, MOST_OF_COIN_LOOP, Row, runs, writes};
+
+// The file cut after so many bytes is refused. The last line may be without its ending.
+fn cut_is_refused<R: Threads + Sync>(rt: &R, alloc: Global, length: usize) -> Result<(), Fail> {
+    let bytes = COIN_LOOP.as_bytes().get(..length).unwrap_or(&[]);
+    let Ok(tra) = from_utf8(bytes) else {
+        return Err(Fail::new("the text is no UTF-8"));
+    };
+    let row = Row {
+        tra,
+        ..MOST_OF_COIN_LOOP
+    };
+    if length.saturating_add(1) >= COIN_LOOP.len() {
+        return writes(rt, alloc, row, COIN_LOOP_REPORT, Status::Fine);
+    }
+    let (ended, _) = runs(rt, alloc, row, &OpenGate {})?;
+    same(length, ended, Status::ModelRefused)
+}
+
+#[test]
+fn a_transition_file_that_is_cut_is_refused(rt: HostRuntime) -> Result<(), Fail> {
+    for length in 0..=COIN_LOOP.len() {
+        cut_is_refused(&rt, rt.alloc(), length)?;
+    }
+    Ok(())
+}

@@ -1,0 +1,12 @@
+//! An outside that fails, is late or comes in pieces, and how workers pass its gate.
+
+mod adapters;
+mod all_workers;
+mod commands;
+mod failing_calls;
+mod late_workers;
+mod long_texts;
+mod names_begun;
+mod pieces;
+mod random_cuts;
+mod workers;

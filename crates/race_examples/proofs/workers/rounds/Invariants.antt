@@ -1,4 +1,0 @@
-use Rattle.race_examples.proofs.workers.rounds.Given as goal
-
-abbrev pub ghosts-rounds_over : goal.ghosts-rounds_over
-ghosts-rounds_over g a = record { posed = a.question.now }
