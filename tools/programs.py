@@ -6,10 +6,12 @@ import subprocess
 from collections import namedtuple
 from pathlib import Path
 
-from endings import UNREAD, Refusal, cause_of
+from endings import REFUSED, UNREAD, Refusal, cause_of
 
 TOOLS = Path(__file__).resolve().parent
 BUILT = TOOLS.parent / "crates" / "stogame" / "out" / "stogame"
+
+WITHOUT_ANSWER = range(3, 10)
 
 Ended = namedtuple("Ended", "status output errors")
 
@@ -42,7 +44,7 @@ def certificate_by(asker, question):
     workers = ["--workers", "1"] if command == "check" else []
     ended = run(program(), command, *question, "--plan", *options, *workers)
     if "certificate " not in ended.output:
-        raise Refusal(asker, None, first_line(ended), ended.status)
+        raise Refusal(asker, None, first_line(ended), status_of(ended))
     return ended.output
 
 
@@ -50,8 +52,13 @@ def audited(question, name):
     """The run of an audit that accepts a certificate file."""
     ended = run(program(), "audit", *question[:3], name, *question[3:])
     if " audited " not in ended.output:
-        raise Refusal(name, None, first_line(ended), ended.status)
+        raise Refusal(name, None, first_line(ended), status_of(ended))
     return ended
+
+
+def status_of(ended):
+    """The status of a run without an answer; one that was ended otherwise counts as refused."""
+    return ended.status if ended.status in WITHOUT_ANSWER else REFUSED
 
 
 def first_line(ended):
