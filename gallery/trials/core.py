@@ -79,6 +79,36 @@ def drawn_choices(draw, count):
     return choices
 
 
+def looped_game(draw, least=4, most=7):
+    """A game of the same players and labels in which play can stay: the last state is `one`, the last but one `two`."""
+    count, inner = draw.randint(least, most), []
+    for _ in range(count - 2):
+        inner.append([looped_choice(draw, count) for _ in range(draw.randint(1, 4))])
+    inner[0].append([(Fraction(1, count), to) for to in range(count)])
+    rule = dict(enumerate([*inner, [], []]))
+    owners = [draw.choice("aab") for _ in range(count)]
+    labels = {"init": lambda _: True, "one": (count - 1).__eq__, "two": (count - 2).__eq__}
+    return Model(0, rule.get, labels, PLAYERS, owners.__getitem__)
+
+
+def looped_choice(draw, count):
+    """A sure move to a state that is no end, or a random one to two of all states."""
+    if draw.random() < 0.5:
+        return [(1, draw.randrange(count - 2))]
+    weights = [draw.randint(1, 4) for _ in range(2)]
+    return [(Fraction(weight, sum(weights)), draw.randrange(count)) for weight in weights]
+
+
+def looped_formula(draw):
+    """A formula about such a game, mostly of one player against the other."""
+    path, goal, safe = draw.choice("FFUG"), ("label", "one"), ("!", ("label", "two"))
+    bound, limit = (draw.choice(ASKED), None) if draw.random() < 0.5 else (draw.choice(SIGNS), draw.choice(LIMITS))
+    coalition = draw.choice((("a",), ("a",), ("b",), *COALITIONS))
+    if path == "G":
+        return Formula(coalition, bound, limit, "G", TRUE, ("!", goal))
+    return Formula(coalition, bound, limit, "U", safe if path == "U" else TRUE, goal)
+
+
 def drawn_formula(draw, paths, depth=0, asks=0.3, inner=ALL_PATHS):
     """A formula with one of these paths, and with formulas inside to a depth; some ask for a value."""
     path = draw.choice(paths)

@@ -48,20 +48,15 @@ def ranked(asked, table, allowed):
     ranks = {state: 0 for state in asked.states() if not has_rank(asked, table, state)}
     choices = [None] * len(table)
     waiting = [state for state in asked.states() if state not in ranks]
-    while waiting:
-        layer = {}
+    for rank in range(1, len(table) + 1):
+        paid = {state: paid_choices(asked, table, state, ranks) for state in waiting}
         for state in waiting:
-            found = [choice for choice in allowed(state) if is_paid(asked, table, state, choice, ranks)]
-            if asked.maximises[state] and found:
-                choices[state] = found[0]
-            every = all(is_paid(asked, table, state, choice, ranks) for choice in range(len(asked.choices[state])))
-            if found if asked.maximises[state] else every:
-                layer[state] = 1 + max(ranks.values())
-        if not layer:
-            return None
-        ranks.update(layer)
-        waiting = [state for state in waiting if state not in layer]
-    return choices, [ranks[state] for state in asked.states()]
+            if asked.maximises[state]:
+                choices[state] = next((choice for choice in allowed(state) if choice in paid[state]), None)
+            if choices[state] is not None or len(paid[state]) == len(asked.choices[state]):
+                ranks[state] = rank
+        waiting = [state for state in waiting if state not in ranks]
+    return None if waiting else (choices, [ranks[state] for state in asked.states()])
 
 
 def has_rank(asked, table, state):
@@ -69,12 +64,14 @@ def has_rank(asked, table, state):
     return state not in asked.goals and state not in asked.dead and table[state] > 0
 
 
-def is_paid(asked, table, state, choice, ranks):
-    """Whether a choice makes at least the entry, and leads to a greater entry or to an equal one of a lesser rank."""
-    edges, total = asked.choices[state][choice]
-    here = table[state]
-    onward = (table[other] > here or (table[other] == here and other in ranks) for _, other in edges)
-    return weighted((edges, total), table) >= here * total and any(onward)
+def paid_choices(asked, table, state, ranks):
+    """The choices that make at least the entry, and lead to a greater entry or to an equal one that has a rank."""
+    found, here = [], table[state]
+    for number, (edges, total) in enumerate(asked.choices[state]):
+        onward = (table[other] > here or (table[other] == here and other in ranks) for _, other in edges)
+        if weighted((edges, total), table) >= here * total and any(onward):
+            found.append(number)
+    return found
 
 
 def replies(asked, upper):

@@ -1,13 +1,13 @@
 """Values to begin with that reach the solver: below and above the values, none at all, or those of other states.
 
-The games have components of several states. All that is said stays true, the certificate is accepted, and no bound is
-much worse than that of a run without such a file.
+Play can stay in the games, whose components have several states. All that is said stays true, the certificate is
+accepted, and no bound is much worse than that of a run without such a file.
 """
 
 from fractions import Fraction
 
 from asking import UNIT, bracket_of
-from core import ENDLESS, Found, drawn_formula, drawn_game
+from core import Found, looped_formula, looped_game
 from exactly import values_of
 from solved import faults_of_plan
 from solver import judged
@@ -18,7 +18,7 @@ SHIFTS = tuple(map(Fraction, ("0", "1e-15", "1e-9", "1e-3", "0.1", "-1e-12", "-0
 
 def trial(draw, room):
     """One game with one question, without a file and with two."""
-    model, formula = looped_game(draw), drawn_formula(draw, (*ENDLESS, "G"))
+    model, formula = looped_game(draw, 5, 8), looped_formula(draw)
     found, values = Found(), values_of(model, formula)
     model.write(room / "m")
     plain = judged(found, room, model, formula, values)
@@ -30,15 +30,6 @@ def trial(draw, room):
         found.note([formula.formula()], faults_of_plan(lines, model, room / "m", formula, *options))
         compare(found, plain, lines)
     return found
-
-
-def looped_game(draw):
-    """A game most of whose states lead back to the first one."""
-    while True:
-        model = drawn_game(draw, 4, 8)
-        back = sum(0 in choice for choices in model.choices for choice in choices)
-        if len(model) > 3 and back > 2:
-            return model
 
 
 def drawn_hints(draw, values):
