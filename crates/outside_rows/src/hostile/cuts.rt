@@ -26,10 +26,14 @@ fn cut_is_refused<R: Threads + Sync>(rt: &R, alloc: Global, length: usize) -> Re
     same(length, ended, Status::ModelRefused)
 }
 
-#[test]
-fn a_transition_file_that_is_cut_is_refused(rt: HostRuntime) -> Result<(), Fail> {
+fn cuts_are_refused<R: Threads + Sync>(rt: &R, alloc: Global) -> Result<(), Fail> {
     for length in 0..=COIN_LOOP.len() {
-        cut_is_refused(&rt, rt.alloc(), length)?;
+        cut_is_refused(rt, alloc, length)?;
     }
     Ok(())
+}
+
+#[test]
+fn a_transition_file_that_is_cut_is_refused(rt: HostRuntime) -> Result<(), Fail> {
+    cuts_are_refused(&rt, rt.alloc())
 }

@@ -234,17 +234,18 @@ fn owners_of_19_bytes(alloc: Global, piece: u32) -> Result<(), Fail>
     )
 }
 
-#[test]
-fn files_may_be_as_long_as_the_limit(rt: HostRuntime) -> Result<(), Fail> {
-    same(
-        "bytes",
-        (COIN_LOOP.len(), GOAL_AT_1.len(), SECOND_OWNS_1.len()),
-        (54, 28, 19),
-    )?;
+fn files_of_the_limit(alloc: Global) -> Result<(), Fail> {
+    let lengths = (COIN_LOOP.len(), GOAL_AT_1.len(), SECOND_OWNS_1.len());
+    same("bytes", lengths, (54, 28, 19))?;
     for piece in [1, 8, 28, 4096] {
-        transitions_of_54_bytes(rt.alloc(), piece)?;
-        labels_of_28_bytes(rt.alloc(), piece)?;
-        owners_of_19_bytes(rt.alloc(), piece)?;
+        transitions_of_54_bytes(alloc, piece)?;
+        labels_of_28_bytes(alloc, piece)?;
+        owners_of_19_bytes(alloc, piece)?;
     }
     Ok(())
+}
+
+#[test]
+fn files_may_be_as_long_as_the_limit(rt: HostRuntime) -> Result<(), Fail> {
+    files_of_the_limit(rt.alloc())
 }

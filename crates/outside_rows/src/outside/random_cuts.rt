@@ -1,6 +1,6 @@
 //! Texts of which some bytes are changed at random: in pieces of any size they are answered as they are in large ones.
 
-ghost use Rattle.std.specs.Prelude.{◌<◌};
+ghost use Rattle.std.specs.Prelude.{◌<◌, length};
 
 use sample_games::Draw;
 use sample_games::expectations::{holds, same};
@@ -11,19 +11,29 @@ use std::thread::Threads;
 use stogame_app::Status;
 use worked_rows::{Command, Ended, FIRST_OF_TWO_PLAYERS, Outside, Row, ends_over};
 
-// The bytes that are written in the place of others, or between them.
-const BYTES: &[u8] = b"0123456789 \t\r\n.:\"=/eap\0";
+const DAMAGE: &[u8] = b"0123456789 \t\r\n.:\"=/eap\0";
+
+// One of a list.
+fn one_of<T: Copy>(draws: &mut Draw, list: &[T]) -> T
+    requires { 0 < length list.now }
+{
+    list[draws.below(list.len())]
+}
 
 // Replaces, drops or inserts a byte.
 fn change_byte(draws: &mut Draw, text: &mut Vec<u8>) -> Result<(), Fail> {
-    let byte = BYTES[draws.below(BYTES.len())];
-    let place = draws.below(text.len() + 1);
-    if place == text.len() || draws.below(3) == 0 {
-        text.insert(place, byte)?;
-    } else if draws.below(2) == 0 {
-        text[place] = byte;
+    let byte = one_of(draws, DAMAGE);
+    let is_replaced = draws.below(2) == 0;
+    if draws.below(3) != 0 && !text.is_empty() {
+        let place = draws.below(text.len());
+        if is_replaced {
+            text[place] = byte;
+        } else {
+            let _dropped = text.remove(place);
+        }
     } else {
-        let _dropped = text.remove(place);
+        let place = draws.below(text.len() + 1);
+        text.insert(place, byte)?;
     }
     Ok(())
 }
@@ -126,15 +136,19 @@ fn are_answered<R: Threads + Sync>(
     Ok(accepted)
 }
 
-#[test]
-fn changed_texts_are_answered_alike_in_pieces_of_any_size(rt: HostRuntime) -> Result<(), Fail> {
+fn all_are_answered<R: Threads + Sync>(rt: &R, alloc: Global) -> Result<(), Fail> {
     let mut draws = Draw::new(1);
     for file in 0..3 {
-        let accepted = are_answered(&rt, rt.alloc(), &mut draws, file, 166)?;
+        let accepted = are_answered(rt, alloc, &mut draws, file, 166)?;
         holds(
             format_args!("of 166 texts of file {file} 40 to 126 are accepted: {accepted}"),
             40 <= accepted && accepted <= 126,
         )?;
     }
     Ok(())
+}
+
+#[test]
+fn changed_texts_are_answered_alike_in_pieces_of_any_size(rt: HostRuntime) -> Result<(), Fail> {
+    all_are_answered(&rt, rt.alloc())
 }
