@@ -29,7 +29,7 @@ fn are_guessed(alloc: Global, question: &Question<'_>) -> Result<(), Fail>
     let zero = zero_set(alloc, question)?;
     for (value, wanted) in GUESSES {
         let lower = [(*value).min(UNIT), UNIT, 0];
-        let found = guess(alloc, question, &zero, &lower)?;
+        let found = guess(alloc, &*question, &zero, &lower)?;
         same(*value, found.as_slice(), [*wanted, UNIT, 0].as_slice())?;
     }
     Ok(())
