@@ -6,7 +6,7 @@ read apart from the program, and what it has to write is worked out: a refusal, 
 
 from answers import checked, read_files
 from audits import audited
-from core import Found, drawn_formula, drawn_game, run, words_of
+from core import ALL_PATHS, ENDLESS, Found, drawn_formula, drawn_game, run, words_of
 from formulas import inside
 from grammar import read_formula
 from model import states_by_mark
@@ -27,8 +27,8 @@ FIELDS = (
 
 def trial(draw, room):
     """One set of texts, asked of `check` or of `audit`."""
-    found, texts, plan = Found(), drawn_texts(draw), draw.random() < 0.2
-    command = draw.choice(("check", "check", "audit"))
+    command, plan = draw.choice((("check", False), ("check", True), ("audit", False)))
+    found, texts = Found(), drawn_texts(draw, command == "check" and not plan)
     if command == "audit":
         texts["certificate"] = certificate_for(texts)
     for _ in range(draw.choice((0, 1, 1, 1, 2))):
@@ -51,10 +51,11 @@ def compare(found, room, texts, command="check", plan=False):
         found.compare([*words, {name: text[:500] for name, text in texts.items()}], (status, output, ""), ran)
 
 
-def drawn_texts(draw):
-    """Files of a game and a formula, of one character a byte."""
-    model = drawn_game(draw, 2, 5, draw.random() < 0.5)
-    formula = drawn_formula(draw, ("F", "U", "G", "F<=", "X", "F", "U"), draw.choice((0, 0, 2))).formula()
+def drawn_texts(draw, any_path):
+    """Files of a game and a formula, mostly one that has a certificate if not any may stand there."""
+    model, any_path = drawn_game(draw, 2, 5, draw.random() < 0.5), any_path or draw.random() < 0.1
+    paths, depth = (ALL_PATHS, draw.choice((0, 1, 2))) if any_path else ((*ENDLESS, "G"), 0)
+    formula = drawn_formula(draw, paths, depth).formula()
     if draw.random() < 0.3:
         formula = formula.replace(" ", draw.choice(("  ", "\t", "\n", "\r\n")))
     owners = [(state, [owner]) for state, owner in enumerate(model.owners) if owner or draw.random() < 0.5]
