@@ -52,14 +52,14 @@ pub fn make_command<'a>(alloc: Global) -> Result<Command<'a>, AllocError>
 }
 
 /// The words of `check`, with any words for its numbers.
-pub fn check_with_any_numbers<'a>(alloc: Global) -> Result<Command<'a>, AllocError> {
+pub(crate) fn check_with_any_numbers<'a>(alloc: Global) -> Result<Command<'a>, AllocError> {
     with_any_limits(alloc, asked_command(alloc, "check")?)?
         .arg(flag(alloc, "plan"))?
         .arg(flag(alloc, "traps"))
 }
 
 /// The words of `make`, with any words for its numbers.
-pub fn make_with_any_numbers<'a>(alloc: Global) -> Result<Command<'a>, AllocError> {
+pub(crate) fn make_with_any_numbers<'a>(alloc: Global) -> Result<Command<'a>, AllocError> {
     let command = bare_command(alloc, "make")
         .arg(positional(alloc, "seed"))?
         .arg(positional(alloc, "states"))?;

@@ -27,7 +27,7 @@ use Rattle.formula_truth.specs.declared.way.Way.TheVariants.{ByRounds, BySolver}
 use Rattle.formula_truth.specs.Truth.{states, question_by, everywhere}
 use Rattle.formula_truth.specs.Bands.{Band, Bands, Known, known, exactly, negated}
 
--- how many rounds are made at most
+-- how many rounds are asked for; with a solver none, which makes some where its bounds are far apart
 abbrev pub rounds_of : Way → ℕ
 rounds_of (ByRounds asked) = asked
 rounds_of BySolver = 0
@@ -56,7 +56,7 @@ pub record IsPlanned (q : Query) (lower upper : List ℕ) (how : How) : Type 0 w
   pub upper_is : upper ≡ plan.upper.items
   pub solved : how ≡ Solved
 
--- a question is answered by these bounds, in this way
+-- a question is answered by these bounds, in this way; a plan speaks of no bound and of no states to begin with
 abbrev pub IsAnsweredBy : Way → Query → Bound → List ℕ → List ℕ → List ℕ → How → Type 0
 IsAnsweredBy (ByRounds asked) q bound starts lower upper how = IsRun q bound starts asked lower upper how
 IsAnsweredBy BySolver q bound starts lower upper how = IsPlanned q lower upper how

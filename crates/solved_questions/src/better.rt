@@ -15,7 +15,7 @@ use std::alloc::Global;
 /// The lesser upper entry of each state; and of the lower tables the one whose sum is greater over the states of these
 /// that the bounds of the plan leave open, at a tie the plan's. The lower table of the bracket has the unit at the
 /// almost-sure states, as that of the plan.
-pub fn better_of(
+pub(crate) fn better_of(
     alloc: Global,
     question: &Question,
     sure: &Marks,

@@ -82,6 +82,7 @@ pub fn solve_question<R: Threads + Sync, G: Gate + Sync>(
         &plan,
         &found.bracket,
     )?;
+    // If the checks refused the better lower table, which rounds vouched for, the plan would fall behind the first one.
     drop(plan);
     drop(found);
     hand_out(alloc, question, predecessors, &sure, &zero, &better)

@@ -19,7 +19,7 @@ const MOST_ROUNDS: u64 = 10_000;
 const MOST_STEPS: u64 = 200_000_000;
 
 /// Whether the bounds of a plan are near each other at each of these states, or settle the bound there.
-pub fn are_close(bound: &Bound, starts: &[u32], plan: &Plan) -> bool {
+pub(crate) fn are_close(bound: &Bound, starts: &[u32], plan: &Plan) -> bool {
     for state in starts {
         if is_open(bound, plan, *state) && width(plan, *state) > MOST_APART {
             return false;
@@ -29,7 +29,7 @@ pub fn are_close(bound: &Bound, starts: &[u32], plan: &Plan) -> bool {
 }
 
 /// Whether the bounds of a plan at a state do not settle the bound.
-pub fn is_open(bound: &Bound, plan: &Plan, state: u32) -> bool {
+pub(crate) fn is_open(bound: &Bound, plan: &Plan, state: u32) -> bool {
     let lower = entry_of(&plan.lower, state);
     let upper = entry_of(&plan.upper, state);
     !settle(bound, lower, upper).is_settling()
