@@ -6,7 +6,7 @@ Every line is worked out: lower and upper bounds, choices, ranks, replies, the n
 from answers import checked
 from core import ENDLESS, Found, drawn_formula, drawn_game, looped_formula, looped_game, run, words_of, written
 
-COUNT = 250
+COUNT = 150
 ROUNDS = (0, 1, 2, 3, 4, 5, 6, 7, 9, 12, 17, 40)
 
 

@@ -3,7 +3,7 @@
 from brackets import compared
 from core import looped_formula, looped_game
 
-COUNT = 150
+COUNT = 80
 ROUNDS = (0, 0, 1, 2, 5)
 
 
