@@ -13,7 +13,7 @@ use Rattle.question_reports.proofs.SolvedPlans.{solved}
 use Rattle.question_reports.proofs.solved.solved_report.Goals as goal
 
 pub returns-clause-report : goal.returns-clause-report
-returns-clause-report c =
+returns-clause-report g c =
     let q = c.args.posed.now.question in
     let plan = c.in_ok-plan.plan in
     let f = tree_of c.args.spelled.now in
