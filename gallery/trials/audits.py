@@ -1,5 +1,6 @@
 """What `audit` has to write of a certificate, by the second audit of `tools/reaudit` over a question posed here."""
 
+import re
 import sys
 from pathlib import Path
 from types import SimpleNamespace
@@ -25,8 +26,8 @@ def audited(files, text, certificate):
     try:
         entries = reaudit.entries_of(str(certificate), len(files.game))
         reaudit.judge(asked, entries)
-    except reaudit.Refused as fault:
-        raise Refusal("cert", *fault.args) from fault
+    except reaudit.Ended as ended:
+        raise refusal_of(ended) from ended
     tables = [[entry[place] for entry in entries] for place in (0, 3)]
     lower, upper = map(mirrored, reversed(tables)) if formula.path == "G" else tables
     verdicts = [verdict_of(formula, lower[state], upper[state]) for state in initial]
@@ -35,6 +36,14 @@ def audited(files, text, certificate):
         for state, verdict in zip(initial, verdicts)
     ]
     return status_of(verdicts), "".join(lines)
+
+
+def refusal_of(ended):
+    """The refusal of a certificate, which the second audit ends with in the words of the first one."""
+    status, text = ended.args
+    assert status == 8, text
+    line, cause = re.fullmatch("refused cert line ([0-9]+) (.*)", text).groups()
+    return Refusal("cert", int(line), cause)
 
 
 def posed(files, formula):

@@ -1,6 +1,7 @@
 """Command lines: options anywhere, in both forms, twice, unknown or without a value, numbers, empty names, and `--`.
 
-They are read by a plain reading of docs/COMMANDS.md: the usage line with status 3, or the run that the words ask for.
+They are read by a plain reading of docs/COMMANDS.md: the usage line with status 3, and one line on standard error, or
+the run that the words ask for.
 """
 
 import re
@@ -17,9 +18,10 @@ COUNT, MANY, FEW = 400, 10_000, 100
 EXAMPLES = Path(__file__).resolve().parents[2] / "examples"
 USAGE = (
     "usage: stogame check TRA LAB FORMULA [--own FILE] [--rounds R] [--workers W] [--plan] [--traps] | "
-    "audit TRA LAB FORMULA CERT [--own FILE] | solve TRA LAB FORMULA [--own FILE] [--values FILE] [--plan] | "
-    "make SEED STATES [--rounds R] [--workers W] | sure TRA LAB FORMULA [--own FILE]\n"
+    "audit TRA LAB FORMULA CERT [--own FILE] | make SEED STATES [--rounds R] [--workers W] | "
+    "sure TRA LAB FORMULA [--own FILE]\n"
 )
+REFUSED = re.compile("stogame: [^\n]+; commands: check, audit, solve, make, sure\n")
 PLACES = {"check": "tlf", "audit": "tlfc", "solve": "tlf", "sure": "tlf", "make": "sn"}
 OPTIONS = {
     "check": ("--own", "--rounds", "--workers", "--plan", "--traps"),
@@ -60,7 +62,10 @@ def trial(draw, room):
     asked = reading(words)
     found.counts["refused" if asked is None else words[0]] += 1
     if asked is None:
-        found.compare(words, (3, USAGE), run(room, *words)[:2])
+        status, output, errors = run(room, *words)
+        found.compare(words, (3, USAGE), (status, output))
+        if not REFUSED.fullmatch(errors):
+            found.note(words, [f"{errors!r} does not say why the words are no command"])
     else:
         compare_answer(found, room, words, asked, contents)
     return found
