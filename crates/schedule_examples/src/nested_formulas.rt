@@ -30,7 +30,10 @@ fn formula_of(alloc: Global, text: &str) -> Result<Formula, Fail>
     formulas_are_those_that_a_text_denotes();
     formulas_of_texts_are_spellable();
     formulas_inside_are_few();
-    Ok(read_formula(alloc, text)?)
+    match read_formula(alloc, text) {
+        Ok(formula) => Ok(formula),
+        Err(_) => Err(Fail::new("the formula is refused")),
+    }
 }
 
 // The labels of three states in a short text.
