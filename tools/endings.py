@@ -66,12 +66,14 @@ class Words(argparse.ArgumentParser):
 
 
 def tell(name, text):
-    """A line on standard error."""
-    print(f"{name}: {text}", file=sys.stderr)
+    """A line on standard error, where there is one."""
+    if sys.stderr is not None:
+        print(f"{name}: {text}", file=sys.stderr)
 
 
 def ended(name, work):
     """Does the work of a tool of this name, and ends with its status, 0 where it gives none."""
+    hold_output()
     try:
         status = work()
         sys.stdout.flush()
@@ -83,6 +85,12 @@ def ended(name, work):
         status = UNWRITTEN
         drop_output()
     sys.exit(status)
+
+
+def hold_output():
+    """Where standard output is closed, whatever is written to it fails."""
+    if sys.stdout is None:
+        sys.stdout = open(os.open(os.devnull, os.O_RDONLY), "w", encoding="utf-8")
 
 
 def drop_output():

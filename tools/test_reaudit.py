@@ -138,8 +138,9 @@ class Worked(InFolder):
         self.assertEqual(call(*words[:3])[:2], (3, ""))
         self.write("certificate", "certificate 2 4\n" + "\n".join(ENTRIES) + "\n")
         command = " ".join(f"'{word}'" for word in (sys.executable, TOOLS / "reaudit", *words))
-        full = run("bash", "-c", f"{command} > /dev/full")
-        self.assertEqual(full, (6, "", "reaudit: cannot write the output: no storage space\n"))
+        for output, cause in (("> /dev/full", "no storage space"), (">&-", "bad file descriptor")):
+            ended = run("bash", "-c", f"{command} {output}")
+            self.assertEqual(ended, (6, "", f"reaudit: cannot write the output: {cause}\n"))
 
     def test_short_and_alone(self):
         lines = (TOOLS / "reaudit").read_text().splitlines()

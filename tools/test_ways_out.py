@@ -286,8 +286,9 @@ class Small(InFolder):
         self.assertEqual(
             ended[1:], ("state,lower,upper,mover,choice,rank\n", "table: cannot write the output: broken pipe\n")
         )
-        ended = run("bash", "-c", f"{sys.executable} {TOOLS / 'table'} {self.cert} >/dev/full")
-        self.assertEqual(ended, (6, "", "table: cannot write the output: no storage space\n"))
+        for output, cause in ((">/dev/full", "no storage space"), (">&-", "bad file descriptor")):
+            ended = run("bash", "-c", f"{sys.executable} {TOOLS / 'table'} {self.cert} {output}")
+            self.assertEqual(ended, (6, "", f"table: cannot write the output: {cause}\n"))
 
 
 @needs_program
