@@ -118,4 +118,7 @@ def write_from_words(make, usage):
         sys.exit(usage)
     if not path:
         sys.exit(usage)
-    make(*sizes).write(path)
+    try:
+        make(*sizes).write(path)
+    except OSError as error:
+        sys.exit(f"cannot write {error.filename}: {error.strerror.lower()}")

@@ -98,7 +98,7 @@ class Rewriter:
     def take(self, *wanted):
         kind, text = self.tokens[0]
         if wanted and not self.ahead(*wanted):
-            raise NoSpelling(f"'{text or 'the end'}' in place of '{wanted[0]}'")
+            raise NoSpelling(f"{shown(text)} in place of '{wanted[0]}'")
         if kind != "end":
             self.tokens.pop(0)
         return text
@@ -234,7 +234,7 @@ class Rewriter:
         """The digits of a number or of a constant."""
         kind, text = self.tokens[0]
         if kind not in ("number", "word"):
-            raise NoSpelling(f"'{text or 'the end'}' in place of a number or constant")
+            raise NoSpelling(f"{shown(text)} in place of a number or constant")
         self.tokens.pop(0)
         if kind == "number":
             return text
@@ -372,7 +372,7 @@ class Rewriter:
         if text in PATHS:
             raise NoSpelling(f"'{text}' inside a state formula is LTL")
         if kind != "word":
-            raise NoSpelling(f"'{text or 'the end'}' in place of a state formula")
+            raise NoSpelling(f"{shown(text)} in place of a state formula")
         if self.ahead("("):
             raise NoSpelling(f"{text}(..): functions are not read")
         atom = Atom(text, "=", "true")
@@ -388,8 +388,12 @@ class Rewriter:
         sign = self.take("-") if self.ahead("-") else ""
         kind, text = self.tokens.pop(0)
         if kind not in ("word", "number"):
-            raise NoSpelling(f"'{text or 'the end'}' in place of a value")
+            raise NoSpelling(f"{shown(text)} in place of a value")
         return sign + self.around.constants.get(text, text)
+
+
+def shown(token):
+    return f"'{token}'" if token else "the end"
 
 
 def plain_name(tokens):

@@ -4,6 +4,7 @@ The statuses are those of `stogame`, which docs/COMMANDS.md lists.
 """
 
 import argparse
+import contextlib
 import errno
 import os
 import sys
@@ -66,9 +67,10 @@ class Words(argparse.ArgumentParser):
 
 
 def tell(name, text):
-    """A line on standard error, where there is one."""
+    """A line on standard error, where that takes one."""
     if sys.stderr is not None:
-        print(f"{name}: {text}", file=sys.stderr)
+        with contextlib.suppress(OSError):
+            print(f"{name}: {text}", file=sys.stderr)
 
 
 def ended(name, work):

@@ -17,11 +17,11 @@ Ended = namedtuple("Ended", "status output errors")
 
 
 def program():
-    """The program that STOGAME names, else the one on the path, else the one that was built here."""
-    for path in (os.environ.get("STOGAME"), shutil.which("stogame"), BUILT):
-        if path and os.access(path, os.X_OK):
-            return str(path)
-    raise Refusal("stogame", None, "no program: ./stogame builds it, or name one by STOGAME", UNREAD)
+    """The program that STOGAME names, and without that the one on the path, else the one that was built here."""
+    path = os.environ.get("STOGAME") or shutil.which("stogame") or BUILT
+    if not os.access(path, os.X_OK):
+        raise Refusal(path, None, "no program: call ./stogame, which builds it, or name one by STOGAME", UNREAD)
+    return str(path)
 
 
 def run(*words):

@@ -80,7 +80,7 @@ def read_words():
     parser.add_argument("--game", action="store_true", help="draw an owner for each state")
     words = parser.parse_args()
     if words.states < GOAL_EVERY or words.choices < 1 or not 1 <= words.places <= MOST_PLACES:
-        parser.error(f"a model has a thousand states, one choice and 1 to {MOST_PLACES} places")
+        parser.error(f"a model has 1,000 states or more, a choice or more, and 1 to {MOST_PLACES} places")
     return words
 
 

@@ -72,13 +72,13 @@ REFUSED = [
     ('A [ F "a" ]', "paths of probability 0 count"),
     ('E [ G "a" ]', "paths of probability 0 count"),
     ('filter(avg, P=? [ F "a" ], "init")', "a filter 'avg': it says nothing of a single state"),
-    ('filter(max, P=? [ F "a" ], "b"', "'the end' in place of ')'"),
+    ('filter(max, P=? [ F "a" ], "b"', "the end in place of ')'"),
     ("P=? [ F mod(x,2)=0 ]", "mod(..): functions are not read"),
     ("P=? [ F " + "(" * 3000 + '"a"' + ")" * 3000 + " ]", "too many brackets"),
     ('label done = s=7', "a label of this form (label): there is none here"),
     ("P=? [ F x+1>3 ]", "variables are compared with single values"),
     ('[[1]] Pmax=? [ F "a" ]', "[[..]] with a value"),
-    ('P=? [ F "a" ', "'the end' in place of ']'"),
+    ('P=? [ F "a" ', "the end in place of ']'"),
     ('P=? [ F "a" ] x', "'x' behind the formula"),
     ('P>0 [ F "a" ] & P>0 [ F "b" ]', "'&' behind the formula; ask each property by itself"),
     ('P=? [ F "a b" ]', "no token"),
@@ -181,6 +181,16 @@ class Files(InFolder):
                 if text.startswith(("E", "[[")):
                     rows, row = [[*rows[0][:1], rows[0][-1]]], [row[0], row[-1]]
                 self.assertEqual((rows, ended), ([row], status))
+
+    def test_a_filter_with_an_unknown_label(self):
+        """It is refused by its line, and the rest is answered."""
+        text = 'filter(state, Pmax=? [ F "goal" ], "none")\nPmax=? [ F "goal" ]\n'
+        status, output, errors = self.ask(text, "--csv", model="coin_loop")
+        self.assertEqual((status, len(output.splitlines())), (4, 3))
+        self.assertEqual(
+            errors,
+            f"properties: {self.folder / 'file.props'}: line 1: the filter: the label file has no label \"none\"\n",
+        )
 
     def test_the_sample(self):
         """Names, comments, constants and variables; the rewards are refused by line, and the rest is answered."""
