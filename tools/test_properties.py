@@ -173,6 +173,7 @@ class Files(InFolder):
             ('Pmax=? [ G<=3 !"goal" ]\n', ["0", "0.562500000000000", "0.562500000000000", "Bracket"], 0),
             ('P>=0.5625 [ G<=3 !"goal" ]\n', ["0", "0.562500000000000", "0.562500000000000", "True"], 0),
             ('Pmax=? [ !"goal" W false ]\n', ["0", half, half, "Bracket"], 0),
+            ('P>=.5 [ F "goal" ]\n', ["0", half, half, "True"], 0),
             ('[[0]] P>=0.6 [ F "goal" ]\n', ["0", half, half, "False"], 1),
             ('E [ F "goal" ]\n', ["0", half, "1.000000000000000", "True"], 0),
         ):
