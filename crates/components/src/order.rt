@@ -48,9 +48,8 @@ fn leads_back(question: &Question, component: &[u32], state: u32, choice: u32) -
 {
     question.known();
     let own = component[state as usize];
-    for place in 0..question.game().edge_count(state, choice) {
-        let to = question.game().edge(state, choice, place).to;
-        if component[to as usize] > own {
+    for to in question.game().successors(state, choice) {
+        if component[*to as usize] > own {
             return false;
         }
     }

@@ -158,7 +158,7 @@ impl Search {
         ensures met { OnOk result (IsInnerOf inner.now step.state step.choice
             → slice_index_or self.new.marks.items step.state false ≡ true) }
     {
-        if !inner.has(step.state, step.choice) {
+        if self.marks[step.state as usize] || !inner.has(step.state, step.choice) {
             return Ok(());
         }
         self.add(step.state)

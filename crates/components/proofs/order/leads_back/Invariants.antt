@@ -1,5 +1,7 @@
-use Rattle.components.specs.Order.{LeadsBack}
+use Rattle.std.proofs.Common.{ℕ, ◌<◌, ◌≤◌}
+use Rattle.std.specs.Prelude.{slice_index}
 use Rattle.components.proofs.order.leads_back.Given as goal
 
-abbrev pub invariant-loop-place : goal.invariant-loop-place
-invariant-loop-place l = LeadsBack l.question l.component l.state l.choice l.place
+abbrev pub invariant-loop-to : goal.invariant-loop-to
+invariant-loop-to l = (k : ℕ) → k < l.to-index
+    → slice_index l.component (slice_index l.to-items k) ≤ slice_index l.component l.state
