@@ -7,8 +7,8 @@ ghost use Rattle.lower_guess.specs.LowerGuess.{last_place, most_steps, IsLowerGu
 use crate::guess::LAST_PLACE;
 use crate::guesses::MOST_STEPS;
 
-/// There is one lower guess of a table and choices: it does not depend on which tables were made, nor on the order of
-/// the search.
+/// There is at most one lower guess of a table and choices: it does not depend on which tables were made, nor on the
+/// order of the search.
 pub fn one_lower_guess()
     ensures { (q : Query) (marks : List Bool) (base : List ℕ) (given : List (Option ℕ)) (values other : List ℕ)
         (choices others : List (Option ℕ)) (ranks alike : List ℕ) →

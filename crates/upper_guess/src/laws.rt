@@ -21,7 +21,7 @@ pub fn excesses()
     ensures last { unit < excess last_place }
 {}
 
-/// There is one first guess: it does not depend on which tables were made, or at which state a table was
+/// There is at most one first guess: it does not depend on which tables were made, or at which state a table was
 /// seen to be refused.
 pub fn one_first_guess()
     ensures { (q : Query) (marks : List Bool) (lower : ℕ → ℕ) (table other : List ℕ) → IsFirstGuess q marks lower table
