@@ -13,7 +13,8 @@ from pathlib import Path
 from unittest import mock
 from xml.etree import ElementTree
 
-sys.path.insert(0, str(Path(__file__).resolve().parent))
+HERE = Path(__file__).resolve().parent
+sys.path[:0] = [str(HERE), str(HERE / "trials")]
 
 import brp
 import chain
@@ -25,6 +26,7 @@ import hallway
 import investor
 import microgrid
 import pictures
+import stiff
 import teams
 import wlan
 from answer import Answer, judge_bracket, judge_inside, parted
@@ -513,6 +515,12 @@ class Drawn(unittest.TestCase):
         causes = [fault and fault[1] for fault in faults]
         for cause in (None, "BadField", "LineCount", "StateOutOfRange", "DoubleState"):
             self.assertGreater(causes.count(cause), 1, cause)
+
+    def test_turns_of_stiff_models(self):
+        """Of a loop that is left by one half, of a state before it, and of one that is never left."""
+        half = Fraction(1, 2)
+        rows = [{0: half, None: half}, {0: Fraction(1)}, {2: Fraction(1)}]
+        self.assertEqual(stiff.expected_turns(rows), [2, 3, float("inf")])
 
 
 class Questions(unittest.TestCase):
