@@ -46,21 +46,36 @@ class Certified:
 @lru_cache(maxsize=None)
 def certified_questions():
     """All questions of `check` that a certificate may be of, in the order of the models."""
+    return [
+        Certified(name, words, model, question)
+        for name, model, question, words in plain_questions()
+        if not has_steps(question)
+    ]
+
+
+def stepped_questions():
+    """All questions of `check` with a bound on the steps and no formula inside: the model's name, and the words."""
+    return [(name, words) for name, _, question, words in plain_questions() if has_steps(question)]
+
+
+def has_steps(question):
+    return question.path == "X" or question.steps is not None
+
+
+@lru_cache(maxsize=None)
+def plain_questions():
+    """All questions of `check` with no formula inside: the model's name, the model, the question, and the words."""
     sys.path.insert(0, str(GALLERY.parent))
     from families import instances
 
     found = []
     for name, module, sizes in instances("small"):
         model, own = module.model(*sizes), GALLERY / f"{name}.own"
+        owners = ["--own", str(own)] if own.exists() else []
+        files = [str(GALLERY / f"{name}.{ending}") for ending in ("tra", "lab")]
         for question in module.questions(*sizes):
-            if (
-                question.command == "check"
-                and question.path != "X"
-                and question.steps is None
-                and not question.inside()
-            ):
-                words = [*(str(GALLERY / f"{name}.{ending}") for ending in ("tra", "lab")), question.formula()]
-                found.append(Certified(name, words + (["--own", str(own)] if own.exists() else []), model, question))
+            if question.command == "check" and not question.inside():
+                found.append((name, model, question, [*files, question.formula(), *owners]))
     return found
 
 

@@ -1,4 +1,4 @@
-"""Formulas of certificates: read with their thresholds and with `G`, whose moves they are, and in words."""
+"""Formulas with none inside: read with their thresholds and with `G`, whose moves they are, and in words."""
 
 import re
 from collections import namedtuple
@@ -82,6 +82,39 @@ class Asked(explicit.Parser):
         if self.always:
             return f"at every time {state_words(self.right)}"
         reached = f"at some time {state_words(self.right)}"
+        return reached if self.left == ("true",) else f"{reached}, and at each time before {state_words(self.left)}"
+
+
+class Bounded(Asked):
+    """What any formula with none inside asks, one with a bound on the steps too: `steps` is their number, or None, and
+    `is_next` holds for `X`."""
+
+    def __init__(self, text):
+        self.steps, self.is_next = None, False
+        super().__init__(text)
+
+    def path(self):
+        if not self.is_word("X"):
+            return super().path()
+        self.move()
+        self.steps, self.is_next = 1, True
+        return ("true",), self.implied()
+
+    def refuse_steps(self):
+        """Takes the bound on the steps, if there is one."""
+        if not self.is_sign("<="):
+            return
+        self.move()
+        number = self.take("number")
+        if not number.isdigit():
+            self.fail(f"'{number}' in place of a number of steps")
+        self.steps = int(number.lstrip("0")[:40] or "0")
+
+    def path_words(self):
+        if self.steps is None:
+            return super().path_words()
+        steps = "1 step" if self.steps == 1 else f"{self.steps} steps"
+        reached = f"{'after' if self.is_next else 'within'} {steps} {state_words(self.right)}"
         return reached if self.left == ("true",) else f"{reached}, and at each time before {state_words(self.left)}"
 
 
