@@ -1,6 +1,6 @@
 -- The two tables of a question are in order, and plays that end pay the lower one.
 use Rattle.std.proofs.Common.{◌≡◌, ℕ, ◌+◌, ◌*◌, ◌^◌, ◌<◌, ◌≤◌, Bool}
-use Rattle.std.proofs.Common.{true, false, List, [], Option, arith, subst, inl, inr}
+use Rattle.std.proofs.Common.{true, List, [], Option, arith, subst, inl, inr}
 use Rattle.std.proofs.Math.Nat.{le_of_mul-le-mul_left, lt_of_mul-lt-mul_right, mul-le-mul_left, one-le-pow}
 use Rattle.std.proofs.lemmas.Bool.{cases_Bool, cases_lt}
 use Rattle.game_model.specs.declared.game.Side.TheVariants.{Max, Min}

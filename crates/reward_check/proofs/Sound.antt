@@ -1,5 +1,5 @@
 -- What is accepted bounds what the game is worth.
-use Rattle.std.proofs.Common.{◌≡◌, ℕ, ◌+◌, ◌*◌, ◌<◌, ◌≤◌, Bool, true, false, List, [], ◌∷◌, length, map, sum_by}
+use Rattle.std.proofs.Common.{◌≡◌, ℕ, ◌*◌, ◌<◌, ◌≤◌, Bool, true, false, List, [], ◌∷◌, length, map, sum_by}
 use Rattle.std.proofs.Common.{arith, refl, ap, sym, ◌∙◌, inl, inr, Option, Some, None}
 use Rattle.std.specs.Bool.{if◌then◌else◌}
 use Rattle.std.specs.List.{AllByRecursion}
@@ -13,7 +13,6 @@ use Rattle.game_model.specs.declared.game.Edge.{Edge}
 use Rattle.game_model.specs.declared.game.Side.TheVariants.{Max, Min}
 use Rattle.game_model.specs.Game.{Distribution, choices_of, choice_of, no_edge}
 use Rattle.game_model.specs.Limits.{unit}
-use Rattle.game_model.specs.Plans.{planned_place}
 use Rattle.game_model.specs.Query.{IsQuery, states, is_dead, side_at}
 use Rattle.game_model.specs.Ranks.{IsRankedChoice, Ranked}
 use Rattle.game_model.specs.Values.{weighted_sum}
