@@ -21,7 +21,7 @@ IsOver table entry reward choice = entry * choice.total < reward * choice.total 
 abbrev pub IsShort : (ℕ → ℕ) → ℕ → ℕ → Distribution → Type 0
 IsShort table entry reward choice = reward * choice.total + weighted_sum table choice.edges < entry * choice.total
 
--- what a choice lacks first, to a part
+-- what a part finds that a choice lacks first
 abbrev pub IsLackOf : Part → Certificate → ℕ → ℕ → RewardCause → Type 0
 IsLackOf Upper c s k cause =
     ((cause ≡ Leaves k) × LeadsAway c.bounded (choice_of c.question.game s k))
