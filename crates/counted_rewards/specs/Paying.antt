@@ -36,10 +36,11 @@ turn s c = record { state = s; throw = 0; choice = c }
 abbrev pub all_finite : List Bool
 all_finite = true ∷ true ∷ []
 
--- the plan to try, and the plan to stay
+-- the plan to try
 abbrev pub try_plan : List (Option ℕ)
 try_plan = Some 1 ∷ None ∷ []
 
+-- the plan to stay
 abbrev pub stay_plan : List (Option ℕ)
 stay_plan = Some 0 ∷ None ∷ []
 
