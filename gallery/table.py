@@ -4,7 +4,8 @@ import os
 import string
 import textwrap
 
-from solved import title
+from gallery.solved import title
+from toolbox.endings import Refusal
 
 MOST_OF_A_DENOMINATOR = 10**9
 PLACES = 18
@@ -56,8 +57,10 @@ def write_markdown(path, size, answers, models):
 def write_between(path, mark, text):
     """Puts a text between the two marks of this name."""
     begin, end = f"<!-- {mark} -->\n", f"<!-- end of {mark} -->\n"
-    before, rest = path.read_text(encoding="utf-8").split(begin)
-    path.write_text(before + begin + text + end + rest.split(end)[1], encoding="utf-8")
+    before, found, rest = path.read_text(encoding="utf-8").partition(begin)
+    if not found or end not in rest:
+        raise Refusal(path.name, None, f"no marks '{mark}'")
+    path.write_text(before + begin + text + end + rest.split(end, 1)[1], encoding="utf-8")
 
 
 def section(name, known, counts, answers):

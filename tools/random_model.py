@@ -14,8 +14,12 @@ one player nearly all are 0 or 1: there is a way to a goal, or none.
 """
 
 import random
+import sys
+from pathlib import Path
 
-from endings import Words, ended
+sys.path.insert(0, str(Path(__file__).resolve().parents[1]))
+
+from toolbox.endings import Words, ended
 
 MOVES = 2
 GOAL_EVERY = 1000

@@ -7,9 +7,9 @@ import unittest
 from pathlib import Path
 from unittest import mock
 
-from calls import call_tool, loaded
-from formula_words import Asked
-from trials import TOOLS, InFolder, needs_program, program, run
+from toolbox.formulas import asked as Asked
+from toolbox.testing import TOOLS, InFolder, call_tool, needs_program, program, run
+from toolbox.testing import load as loaded
 
 EXAMPLES = TOOLS.parent / "examples"
 FORMULA = '<<p1>> P>=0.6 [ F "goal" ]'

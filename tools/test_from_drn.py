@@ -5,8 +5,8 @@ import gzip
 import io
 import unittest
 
-from endings import Refusal
-from trials import SAMPLES, InFolder, load, needs_program, program, run, run_tool
+from toolbox.endings import Refusal
+from toolbox.testing import SAMPLES, InFolder, load, needs_program, program, run, run_tool
 
 DIE = {
     "out.tra": "7 11\n0 1 0.5\n0 2 0.5\n1 0 0.5\n1 3 1/2\n2 4 0.25\n2 5 2.5e-1\n2 6 0.5\n3 3 1\n4 4 1\n5 5 1\n6 6 1\n",
@@ -252,7 +252,3 @@ class Refused(InFolder):
         name = self.folder / "none" / "out.tra"
         self.assertEqual(errors, f"from_drn: cannot write {name}: no such file or directory\n")
         self.assertEqual(self.written(), {})
-
-
-if __name__ == "__main__":
-    unittest.main()

@@ -4,15 +4,11 @@ import stat
 import sys
 import unittest
 
-from endings import Refusal
-from trials import TOOLS, InFolder, load, needs_program, program, run_tool
-
-sys.path.insert(0, str(TOOLS.parent / "gallery"))
-
-import die
-import wind
-from exact import exact_values
-from question import Question
+from gallery.families import die, wind
+from toolbox.endings import Refusal
+from toolbox.exact import exact_values
+from toolbox.model import ask
+from toolbox.testing import InFolder, load, needs_program, program, run_tool
 
 measure = load("measure")
 
@@ -30,7 +26,7 @@ case "$1" in
         echo '1 0.000000000000000 - 0 0.000000000000000 -' ;;
 esac
 """
-STALL = measure.Entry("traps", "stall-1", "gallery/stall.py 1", '<<max>> Pmax=? [ F "won" ]')
+STALL = measure.Entry("traps", "stall-1", '<<max>> Pmax=? [ F "won" ]')
 
 
 class MadeUp(InFolder):
@@ -113,16 +109,12 @@ class Shares(InFolder):
     def test_states_strictly_between(self):
         """The share by the program against values in fractions."""
         for module, sizes, question in (
-            (die, (6,), Question("Pmax=?", "one")),
-            (wind, (4, 1), Question("Pmax=?", "goal", coalition=("robot",))),
+            (die, (6,), ask("Pmax=?", "one")),
+            (wind, (4, 1), ask("Pmax=?", "goal", coalition=("robot",))),
         ):
             model = module.model(*sizes)
             between = sum(0 < value < 1 for value in exact_values(model, question))
-            words = f"gallery/{module.__name__}.py {' '.join(map(str, sizes))}"
-            files = measure.Files(measure.Entry("", "", words, question.formula()), self.folder)
+            name = "-".join([module.__name__.rpartition(".")[2], *map(str, sizes)])
+            files = measure.Files(measure.Entry("", name, question.formula()), self.folder)
             share = f"{100 * between / len(model):.1f} %"
             self.assertEqual(measure.model_row(files, str(program()))[-1], share)
-
-
-if __name__ == "__main__":
-    unittest.main()

@@ -5,8 +5,8 @@ import io
 import unittest
 from argparse import Namespace
 
-from endings import Refusal
-from trials import SAMPLES, InFolder, load, needs_program, program, run, run_tool
+from toolbox.endings import Refusal
+from toolbox.testing import SAMPLES, InFolder, load, needs_program, program, run, run_tool
 
 STATES = SAMPLES / "documented_states.sta"
 PLAYERS = SAMPLES / "documented_players.pla"
@@ -187,7 +187,3 @@ class OwnerFiles(InFolder):
         )
         self.assertEqual(status, 0)
         self.assertTrue(output.startswith("state 0 lower 0.500000000000000 upper 0.500000000000000"), output)
-
-
-if __name__ == "__main__":
-    unittest.main()

@@ -2,7 +2,7 @@
 
 import unittest
 
-from plain_names import plain, renamed
+from toolbox.dialects import plain, renamed
 
 # a name and its plain one, by the rule
 PLAIN = [
@@ -40,7 +40,3 @@ class Names(unittest.TestCase):
             with self.subTest(names):
                 found = renamed(names, lambda name: b" " not in name)
                 self.assertEqual((list(found), list(found.values())), (names, wanted))
-
-
-if __name__ == "__main__":
-    unittest.main()

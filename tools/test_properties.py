@@ -4,11 +4,9 @@ import json
 import os
 import unittest
 
-from calls import call_tool, loaded
-from dialects import NoSpelling, Surroundings, rewritten
-from trials import SAMPLES, TOOLS, InFolder, needs_program, program
+from toolbox.dialects import NoSpelling, Surroundings, rewritten
+from toolbox.testing import EXAMPLES, SAMPLES, InFolder, call_tool, load, needs_program, program
 
-EXAMPLES = TOOLS.parent / "examples"
 DEFINED = {"bad": 'x>1 | "a"', "a": "x=7", "round": 'x=1 & "round"', "done": "(s=7) & done"}
 CHAIN = Surroundings({"N": "5", "p": "0.9"}, ["p0"], {"a", "s_eq_7_and_done"}, True, DEFINED)
 GAME = Surroundings({}, ["p1", "anna"], {"a"}, False)
@@ -139,7 +137,7 @@ class Dialects(unittest.TestCase):
         )
 
     def test_worst(self):
-        worst = loaded("properties").worst
+        worst = load("properties").worst
         for statuses, status in (((), 0), ((0, 2), 2), ((0, 2, 1), 1), ((1, 4, 2), 4), ((8, 4), 8)):
             self.assertEqual(worst(statuses), status)
 
@@ -272,7 +270,3 @@ class Files(InFolder):
             "line 2: x=1 compares a variable: use a label, or name the list of states by --sta",
         ]
         self.assertEqual(errors, "".join(f"properties: {self.folder / 'file.props'}: {line}\n" for line in said))
-
-
-if __name__ == "__main__":
-    unittest.main()

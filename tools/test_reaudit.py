@@ -10,8 +10,7 @@ import unittest
 from functools import lru_cache
 from unittest import mock
 
-from certified_models import certified_models, certified_questions
-from trials import TOOLS, InFolder, load, needs_program, program, run
+from toolbox.testing import TOOLS, InFolder, certified_models, certified_questions, load, needs_program, program, run
 
 CHANGED = 1000
 DAMAGED = 200

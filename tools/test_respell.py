@@ -4,8 +4,8 @@ import io
 import sys
 import unittest
 
-from endings import Refusal
-from trials import SAMPLES, TOOLS, InFolder, load, needs_program, program, run, run_tool
+from toolbox.endings import Refusal
+from toolbox.testing import SAMPLES, TOOLS, InFolder, load, needs_program, program, run, run_tool
 
 # a spelling, the places to round to, the new spelling, and what it changes by shortening and by rounding
 SPELT = [
@@ -152,7 +152,3 @@ class Commands(InFolder):
             status, output, errors = run(program(), "check", f"{out}.tra", f"{out}.lab", formula)
             self.assertEqual((status, errors), (0, ""), output)
             self.assertTrue(output.startswith(bounds) and output.endswith(verdict), output)
-
-
-if __name__ == "__main__":
-    unittest.main()

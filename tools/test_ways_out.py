@@ -10,16 +10,13 @@ import sys
 import unittest
 from fractions import Fraction
 from pathlib import Path
-from types import SimpleNamespace
 
-import explicit
-from calls import call_tool
-from certified_models import certified_models, starts_of
-from choice_names import read_choice_names
-from strategies import read_strategy
-from trials import SAMPLES, TOOLS, InFolder, needs_program, program, run, run_tool
+from toolbox import explicit
+from toolbox.exact import Plain, exact_values
+from toolbox.strategies import read_choice_names, read_strategy
+from toolbox.testing import EXAMPLES, SAMPLES, TOOLS, InFolder, call_tool, certified_models, needs_program, program
+from toolbox.testing import run, run_tool
 
-EXAMPLES = TOOLS.parent / "examples"
 SCHEMA = TOOLS.parent / "docs" / "table.schema.json"
 NAMED = [str(SAMPLES / f"named_game.{ending}") for ending in ("tra", "sta")]
 GAME = [str(EXAMPLES / f"two_players.{ending}") for ending in ("lab", "own")]
@@ -384,10 +381,9 @@ class OfTheGallery(InFolder):
                     actions = call_tool("strategy", cert, *words, "--prism-actions")[1]
                     scheduler = call_tool("strategy", cert, *words, "--storm-json")[1]
                     self.assertEqual([tuple(map(int, line.split(":"))) for line in actions.splitlines()], wanted)
-                    starts = starts_of(one.words[0])
-                    objects = [(row["s"], row["c"][0]["index"] - starts[row["s"]]) for row in json.loads(scheduler)]
-                    self.assertEqual(objects, wanted)
                     model = explicit.read_transitions(one.words[0])
+                    choices = [(row["s"], row["c"][0]["index"]) for row in json.loads(scheduler)]
+                    self.assertEqual([(state, index - model.choice_start[state]) for state, index in choices], wanted)
                     names = read_choice_names(one.words[0], model)
                     for text in (actions, scheduler):
                         found = read_strategy(str(self.write("mine", text)), names)
@@ -415,8 +411,6 @@ class OfTheGallery(InFolder):
 
     def exactly_within(self, one, out):
         """The exact values of the induced model lie between the bounds at every state."""
-        from exact import exact_values
-
         values = exact_values(plain_model(out, one.model), one.question)
         for state, value in enumerate(values):
             lower, upper = (Fraction(one.entries[state][place]) for place in (1, 4))
@@ -451,26 +445,11 @@ def strategies_of(one):
 
 
 def plain_model(out, model):
-    """A model that was written, as the gallery's exact values take it."""
+    """A model that was written, with the labels and the players of another, as exact values take it."""
     made = explicit.read_transitions(f"{out}.tra")
     choices = []
     for state in range(made.states):
-        rows = [(made.weighted(choice), made.edges_of(choice)) for choice in made.choices_of(state)]
-        choices.append(
-            [
-                {made.successor[edge]: Fraction(weight, total) for weight, edge in zip(weights, edges)}
-                for (weights, total), edges in rows
-            ]
-        )
-
-    class Plain(SimpleNamespace):
-        def __len__(self):
-            return len(self.choices)
-
-        __hash__ = object.__hash__
-
-    return Plain(choices=choices, labels=model.labels, players=model.players, owners=model.owners)
-
-
-if __name__ == "__main__":
-    unittest.main()
+        weighted = [(made.edges_of(choice), *made.weighted(choice)) for choice in made.choices_of(state)]
+        rows = [(zip(weights, map(made.successor.__getitem__, edges)), total) for edges, weights, total in weighted]
+        choices.append(rows)
+    return Plain(choices, model.labels, model.players, [model.players[owner] for owner in model.owners])

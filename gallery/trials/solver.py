@@ -2,10 +2,10 @@
 
 from fractions import Fraction
 
-from asking import UNIT, asked, bracket_of, failures
 from core import Found, faults_of_report
-from drawn import drawn_game, drawn_question, stays_open
-from solved import faults_of_line, faults_of_plan
+from gallery.solved import faults_of_line, faults_of_plan
+from toolbox.drawn import drawn_game, drawn_question, stays_open
+from toolbox.programs import UNIT, asked, bracket_of, failures
 
 COUNT, QUESTIONS, MANY = 60, 4, 10
 
@@ -24,15 +24,21 @@ def trial(draw, room):
 
 def judged(found, room, model, question, values, *options):
     """The lines of `solve`, which are compared with the values, and their widths are counted."""
-    run = asked("solve", room / "m", model, question, *options)
-    lines, faults = run.stdout.splitlines(), failures(run) or faults_of_report(run.stdout, question, values)
-    if not faults:
-        faults = [fault for line, value in zip(lines, values) for fault in faults_of_line(line, question, value)]
-    found.note([question.formula()], faults)
-    found.counts["runs"] += 1
+    lines = compared(found, room, model, question, values, *options)
     for lower, upper in filter(None, map(bracket_of, lines)):
         width = (Fraction(upper) - Fraction(lower)) / UNIT
         found.counts["bounds"] += 1
         found.counts["with no unit between"] += width == 0
         found.counts[f"with more than {MANY}"] += width > MANY
+    return lines
+
+
+def compared(found, room, model, question, values, *options):
+    """The lines of `solve`, which are compared with the values."""
+    run = asked("solve", room / "m", model, question, *options)
+    lines, faults = run.output.splitlines(), failures(run) or faults_of_report(run.output, question, values)
+    if not faults:
+        faults = [fault for line, value in zip(lines, values) for fault in faults_of_line(line, question, value)]
+    found.note([question.formula()], faults)
+    found.counts["runs"] += 1
     return lines
