@@ -5,7 +5,6 @@ import io
 import os
 import random
 import stat
-import sys
 import tempfile
 import unittest
 from fractions import Fraction
@@ -16,7 +15,7 @@ from xml.etree import ElementTree
 from gallery import pictures
 from gallery.answer import Answer, judge_bracket, judge_inside, parted
 from gallery.families import OTHER, SIZES, Known, agrees, brp, chain, charlton, coin, csma, egl, hallway, instances
-from gallery.families import investor, microgrid, same_or_size, teams, wlan
+from gallery.families import investor, known_as, microgrid, same_or_size, teams, wlan
 from gallery.picture import BOTTOM, LEFT, RIGHT, Picture, linear, logarithmic
 from gallery.solved import Solved, faults_of_line, is_taken, solved
 from gallery.solved import spelt as spelt_width
@@ -133,7 +132,7 @@ class KnownModels(unittest.TestCase):
         for name, module, sizes in instances("small"):
             states, _, moves = module.model(*sizes).counts()
             with self.subTest(model=name):
-                self.assertEqual(module.known_as(*sizes).faults(states, moves), [])
+                self.assertEqual(known_as(module, sizes).faults(states, moves), [])
 
     def test_models_of_the_benchmark_set(self):
         """The numbers of states and moves, and values, that are published of some models that are not among the small

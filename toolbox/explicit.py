@@ -27,9 +27,6 @@ ONLY_PLAYER = "p0"
 # a sum of probabilities may miss 1 by one part in so many, since decimals are rounded
 SUM_TOLERANCE = 100_000
 
-# totals below this number have weights that fit a list of 64-bit numbers
-NARROW = 1 << 62
-
 # how compressed files begin
 COMPRESSED = {b"\x1f\x8b": "gzip (.gz)", b"\xfd7zXZ\0": "xz (.xz)"}
 MOST_MAGIC = max(map(len, COMPRESSED))
@@ -190,19 +187,13 @@ def weights_of(fractions):
 
 
 class Model:
-    """A Markov decision process in flat lists.
-
-    A choice of a total of 2^62 or more has weights of 0 in the flat list, and its own in `wide`, a map to weights and
-    total.
-    """
+    """A Markov decision process in flat lists."""
 
     def __init__(self):
         self.choice_start = array("i", [0])
         self.edge_start = array("i", [0])
         self.successor = array("i")
-        self.weight = array("q")
-        self.total = array("q")
-        self.wide = {}
+        self.weights = []
 
     @property
     def states(self):
@@ -216,25 +207,16 @@ class Model:
 
     def weighted(self, choice):
         """The exact weights of a choice, in the order of its edges, and their total."""
-        if choice in self.wide:
-            return self.wide[choice]
-        first, end = self.edge_start[choice], self.edge_start[choice + 1]
-        return self.weight[first:end], self.total[choice]
+        return self.weights[choice]
 
     def add_choice(self, successors, weights, total):
         """Adds a choice of the state under way."""
-        if total < NARROW:
-            self.weight.extend(weights)
-            self.total.append(total)
-        else:
-            self.wide[len(self.total)] = weights, total
-            self.weight.extend([0] * len(weights))
-            self.total.append(0)
+        self.weights.append((weights, total))
         self.successor.extend(successors)
         self.edge_start.append(len(self.successor))
 
     def end_state(self):
-        self.choice_start.append(len(self.total))
+        self.choice_start.append(len(self.weights))
 
 
 class Rows:

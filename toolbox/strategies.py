@@ -121,7 +121,7 @@ class ChoiceNames:
 def read_choice_names(name, model):
     """The names in a transition file that was read as this model.
     Of a Markov chain no name is kept, since it has no choices."""
-    names = [None] * len(model.total)
+    names = [None] * len(model.weights)
     width = None
     for first, rows in field_blocks(name):
         if width is None:

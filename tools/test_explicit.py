@@ -1,6 +1,5 @@
 """Readers of explicit files and formulas: what they give, and what they refuse with which line."""
 
-import unittest
 from collections import Counter
 from fractions import Fraction
 

@@ -3,7 +3,6 @@
 import contextlib
 import gzip
 import io
-import unittest
 
 from toolbox.endings import Refusal
 from toolbox.testing import SAMPLES, InFolder, load, needs_program, program, run, run_tool

@@ -4,10 +4,8 @@ valued."""
 import csv
 import io
 import json
-import os
 import re
 import sys
-import unittest
 from fractions import Fraction
 from pathlib import Path
 
@@ -291,10 +289,6 @@ class Small(InFolder):
 @needs_program
 class Guarantees(InFolder):
     """What strategies for the game of two players guarantee: 0.65 by throwing, else what the other player leaves."""
-
-    def setUp(self):
-        super().setUp()
-        os.environ["STOGAME"] = str(program())
 
     def ask(self, text, *more):
         words = [NAMED[0], GAME[0], FORMULA, "--own", GAME[1], "--sta", NAMED[1]]

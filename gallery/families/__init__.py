@@ -86,6 +86,11 @@ class Known:
         return []
 
 
+def known_as(family, sizes):
+    """What a model of a family is known as: by the rule of the family, or as all its models are, if they are."""
+    return family.known_as(*sizes) if hasattr(family, "known_as") else getattr(family, "KNOWN", Known())
+
+
 def same_or_size(name, sizes, counts, asked):
     """What is known of an instance: the same model where its states and moves are published, else one by its rules."""
     words = f"{name} {'-'.join(map(str, sizes))}: {asked}"
@@ -96,3 +101,11 @@ def agrees(value, published):
     """Whether a value is the published one, whose last digit may be rounded or cut off."""
     unit = Fraction(10) ** Decimal(published).as_tuple().exponent
     return -unit / 2 <= value - Fraction(published) < unit
+
+
+# What families share
+
+
+def changed(row, place, item):
+    """A row with another item at a place."""
+    return row[:place] + (item,) + row[place + 1 :]

@@ -30,6 +30,7 @@ REACTIONS = {
     "obstacle": {"change lanes": Fraction(2, 100), "turn back": Fraction(1, 100)},
 }
 SIZES = {"small": [(1,), (3,)], "large": [(12,)]}
+KNOWN = Known("PRISM-games' `charlton`", kind=REBUILT)
 
 
 def model(blocks):
@@ -84,7 +85,3 @@ def questions(blocks):
     yield ask("P>=0.99", "home", home, CLOSED, coalition=("car",))
     yield ask("Pmax=?", "home", unjammed, CLOSED, coalition=("car",), safe="!jammed")
     yield sure("Pmax=?", "home", coalition=("car",))
-
-
-def known_as(blocks):
-    return Known("PRISM-games' `charlton`", kind=REBUILT)

@@ -19,7 +19,7 @@ these are the fractions of one scheduler, found by value iteration, whose values
 
 from fractions import Fraction
 
-from gallery.families import Known
+from gallery.families import Known, changed
 from toolbox.model import COMPUTED, Model, ask, sure
 
 HALF = Fraction(1, 2)
@@ -47,7 +47,7 @@ def model(processes, bound):
         counter, doing = state
         moves = [moved(counter, *doing[process], bound * processes) for process in range(processes)]
         return [
-            [(part, (after, doing[:process] + (told,) + doing[process + 1 :])) for part, after, told in moves[process]]
+            [(part, (after, changed(doing, process, told))) for part, after, told in moves[process]]
             for process in range(processes)
             if moves[process]
         ]

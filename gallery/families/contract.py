@@ -26,6 +26,7 @@ from toolbox.model import CLOSED, Model, ask
 
 HALF = Fraction(1, 2)
 SIZES = {"small": [(1,), (3,)], "large": [(6,)]}
+KNOWN = Known("`egl`", kind=OTHER)
 
 
 def model(pairs):
@@ -74,7 +75,3 @@ def questions(pairs):
     yield ask("Pmax=?", "b_cheats", early, CLOSED, steps=steps)
     yield ask("P<=2/3", "b_cheats", early, CLOSED, steps=steps)
     yield ask("P>=1/3", "!b_cheats", 1 - cheated, CLOSED, path="G")
-
-
-def known_as(pairs):
-    return Known("`egl`", kind=OTHER)

@@ -24,6 +24,7 @@ from toolbox.model import CLOSED, Model, ask, sure
 ON = Fraction(3, 4)
 SOURCE = "Reiter and Rubin 1998"
 SIZES = {"small": [(5, 1, 0), (6, 1, 0), (6, 1, 3), (20, 3, 5)], "large": [(60, 9, 20)]}
+KNOWN = Known("`crowds`", kind=OTHER)
 SENDER = 0
 
 
@@ -75,7 +76,3 @@ def questions(members, collaborators, paths):
     yield ask("Pmax=?", "sender_seen", first, CLOSED, safe="!other_seen")
     yield ask("Pmax=?", "twice", twice, CLOSED)
     yield ask("P<0.1", "twice", twice, CLOSED)
-
-
-def known_as(members, collaborators, paths):
-    return Known("`crowds`", kind=OTHER)

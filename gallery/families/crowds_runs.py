@@ -18,7 +18,7 @@ s)^(RUNS - 1), and never with (1 - s)^RUNS.
 
 from fractions import Fraction
 
-from gallery.families import same_or_size
+from gallery.families import changed, same_or_size
 from toolbox.model import CLOSED, Model, ask, sure
 
 CORRUPT, HANDED_ON = Fraction(167, 1000), Fraction(8, 10)
@@ -47,7 +47,7 @@ def model(members, runs):
         if doing == "held":
             return [[(HANDED_ON, to("on its way")), (1 - HANDED_ON, to("delivered"))]]
         if doing == "corrupt":
-            return [[(1, to("seen", seen=seen[:last] + (seen[last] + 1,) + seen[last + 1 :]))]]
+            return [[(1, to("seen", seen=changed(seen, last, seen[last] + 1)))]]
         return [[(1, to("new", last=0))]]
 
     labels = {

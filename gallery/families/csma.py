@@ -20,7 +20,7 @@ one, are heard, whatever the scheduler does.
 from fractions import Fraction
 from typing import NamedTuple
 
-from gallery.families import Known
+from gallery.families import Known, changed
 from toolbox.model import CLOSED, Model, ask, sure
 
 TRAVEL, MESSAGE = 1, 30
@@ -76,8 +76,8 @@ def own_steps(cable, row, place, most):
     """What one station may do: begin, find the cable busy, end, or draw how long it waits."""
     station = row[place]
 
-    def after(changed, cable=cable):
-        return (cable, row[:place] + (changed,) + row[place + 1 :])
+    def after(station, cable=cable):
+        return (cable, changed(row, place, station))
 
     if station.doing == "ready" or (station.doing, station.clock, station.slots) == ("waits", SLOT, 0):
         sending = station._replace(doing="sends", clock=0)

@@ -22,6 +22,7 @@ from toolbox.model import CLOSED, COMPUTED, Model, ask, sure
 
 STEADY, BOLD = (1, 2, 3, 4, 5, 6), (0, 6)
 SIZES = {"small": [(1,), (4,)], "large": [(20,)]}
+KNOWN = Known("PRISM-games' `dice`", kind=REBUILT)
 
 
 def model(throws):
@@ -50,7 +51,3 @@ def questions(throws):
     yield ask("Pmax=?", "!b_wins", coalition=("a",), path="G")
     yield ask("P>=0.5", "b_wins", coalition=("b",))
     yield sure("P>=1", "over", value=1, source=CLOSED)
-
-
-def known_as(throws):
-    return Known("PRISM-games' `dice`", kind=REBUILT)

@@ -20,7 +20,7 @@ is first with 1/2 (1 - 1 / 2 ^ PAIRS), and B with what is left of 1.
 from fractions import Fraction
 from itertools import product
 
-from gallery.families import same_or_size
+from gallery.families import changed, same_or_size
 from toolbox.model import CLOSED, Model, ask, sure
 
 HALF = Fraction(1, 2)
@@ -67,7 +67,7 @@ def learnt(known, pair, second, bits):
     """What a party knows with one bit more of a secret of a pair, where it does not know all of them."""
     counts = list(known[pair])
     counts[second] = min(counts[second] + 1, bits)
-    return known[:pair] + (tuple(counts),) + known[pair + 1 :]
+    return changed(known, pair, tuple(counts))
 
 
 def questions(pairs, bits):

@@ -19,12 +19,13 @@ Value: computed in fractions by strategy iteration for both players.
 from fractions import Fraction
 
 from gallery.families import REBUILT, Known
-from gallery.families.robot import STEPS
+from gallery.families.robot import neighbours
 from toolbox.model import BACKWARD, Model, ask, sure
 
 WHOLE_MOVES, DAMAGED_MOVES, DAMAGE = Fraction(8, 10), Fraction(4, 10), Fraction(1, 100)
 WANDERS = Fraction(1, 2)
 SIZES = {"small": [(1, 4), (2, 3)], "large": [(3, 4)]}
+KNOWN = Known("PRISM-games' `hallway`", kind=REBUILT)
 
 
 def model(rows, columns):
@@ -33,8 +34,8 @@ def model(rows, columns):
         if robot == human:
             return []
         if turn == "robot":
-            return [moved(state, step) for step in neighbours(robot)]
-        ways = neighbours(human)
+            return [moved(state, step) for step in neighbours(robot, rows, columns)]
+        ways = neighbours(human, rows, columns)
         random = [(WANDERS / len(ways), (robot, way, damaged, "robot")) for way in ways]
         return [random + [(1 - WANDERS, (robot, way, damaged, "robot"))] for way in [human, *ways]]
 
@@ -47,10 +48,6 @@ def model(rows, columns):
             (arrives, (step, human, damaged, "human")),
             (breaks, (robot, human, True, "human")),
         ]
-
-    def neighbours(field):
-        fields = [(field[0] + row, field[1] + column) for row, column in STEPS]
-        return [(row, column) for row, column in fields if 0 <= row < rows and 0 <= column < columns]
 
     labels = {
         "found": lambda state: state[0] == state[1],
@@ -68,7 +65,3 @@ def questions(rows, columns):
     yield ask("P>=0.9", "found_whole", coalition=("robot",))
     yield ask("Pmax=?", "found", source=BACKWARD, coalition=("robot",), steps=4 * (rows + columns))
     yield sure("Pmax=?", "found", coalition=("robot",))
-
-
-def known_as(rows, columns):
-    return Known("PRISM-games' `hallway`", kind=REBUILT)

@@ -24,13 +24,14 @@ from fractions import Fraction
 from itertools import product
 from typing import NamedTuple, Optional
 
-from gallery.families import REBUILT, Known
+from gallery.families import REBUILT, Known, changed
 from toolbox.model import Model, ask, sure
 
 WAITS, RESERVED, SOLD_LOW, SOLD_HIGH = "waits", "reserved", "sold", "sold high"
 RETURNS = Fraction(2, 3)
 MARKET = "market"
 SIZES = {"small": [(4, 4, 1), (2, 2, 2)], "large": [(8, 6, 1), (4, 4, 2)]}
+KNOWN = Known("PRISM's and PRISM-games' `investor`", kind=REBUILT)
 
 
 class Month(NamedTuple):
@@ -94,10 +95,6 @@ def model(top, high, investors):
     return Model(first, rule, labels, players, lambda month: players[month.turn])
 
 
-def changed(statuses, number, status):
-    return statuses[:number] + (status,) + statuses[number + 1 :]
-
-
 def names(investors):
     return [*(f"i{number}" for number in range(1, investors + 1)), MARKET]
 
@@ -113,7 +110,3 @@ def questions(top, high, investors):
     yield ask("P>=0.25", "one_high", coalition=tuple(everyone))
     yield ask("Pmax=?", "!i1_high", coalition=(market,), path="G")
     yield sure("Pmax=?", "i1_low", coalition=("i1",))
-
-
-def known_as(top, high, investors):
-    return Known("PRISM's and PRISM-games' `investor`", kind=REBUILT)

@@ -19,12 +19,13 @@ loads gently. One hour has a peak of all loads at once where enough households h
 from fractions import Fraction
 from typing import NamedTuple
 
-from gallery.families import REBUILT, Known
+from gallery.families import REBUILT, Known, changed
 from toolbox.model import Model, ask, sure
 
 LOAD = Fraction(1, 2)
 AT_ONCE, GENTLY = 2, 1
 SIZES = {"small": [(3, 4, 2), (4, 5, 3)], "large": [(6, 7, 8)]}
+KNOWN = Known("PRISM-games' microgrid demand-side management, `mdsm`", kind=REBUILT)
 
 
 class Turn(NamedTuple):
@@ -51,7 +52,7 @@ def model(households, limit, hours):
         household, power = turn.household, turn.power + power
         if power > limit:
             return "peak"
-        running = turn.runs_on[:household] + (runs_on,) + turn.runs_on[household + 1 :]
+        running = changed(turn.runs_on, household, runs_on)
         if household + 1 < households:
             return Turn(turn.hour, household + 1, running, power)
         return Turn(turn.hour + 1, 0, running)
@@ -71,7 +72,3 @@ def questions(households, limit, hours):
     yield ask("P<=0.25", "peak", coalition=tuple(players[2:]))
     yield ask("Pmax=?", "!peak", coalition=tuple(players[2:]), path="G")
     yield sure("Pmax=?", "peak", coalition=tuple(players))
-
-
-def known_as(households, limit, hours):
-    return Known("PRISM-games' microgrid demand-side management, `mdsm`", kind=REBUILT)

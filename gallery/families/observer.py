@@ -19,11 +19,12 @@ Value: computed in fractions by strategy iteration for both players.
 from fractions import Fraction
 
 from gallery.families import REBUILT, Known
-from gallery.families.robot import STEPS
+from gallery.families.robot import neighbours
 from toolbox.model import Model, ask, sure
 
 FOUND, STEP = Fraction(1, 10), Fraction(9, 10)
 SIZES = {"small": [(2, 1), (3, 1)], "large": [(4, 2)]}
+KNOWN = Known("PRISM-games' `avoid-the-observer`", kind=REBUILT)
 
 
 def model(side, sight):
@@ -34,13 +35,13 @@ def model(side, sight):
         if observer == intruder or intruder == way_out and turn == "observer":
             return []
         if turn == "observer":
-            steps = neighbours(observer, side)
+            steps = neighbours(observer, side, side)
             if distance(intruder, observer) > sight:
                 return [[(Fraction(1, len(steps)), (intruder, step, has_item, "intruder")) for step in steps]]
             return [[(1, (intruder, step, has_item, "intruder"))] for step in [observer, *steps]]
         stays = (intruder, observer, has_item, "observer")
         search = [(FOUND, (intruder, observer, True, "observer")), (1 - FOUND, stays)]
-        steps = [(step, observer, has_item, "observer") for step in neighbours(intruder, side)]
+        steps = [(step, observer, has_item, "observer") for step in neighbours(intruder, side, side)]
         return [search] + [[(STEP, step), (1 - STEP, stays)] for step in steps]
 
     labels = {
@@ -56,11 +57,6 @@ def is_out(state, way_out):
     return state[0] == way_out != state[1] and state[3] == "observer"
 
 
-def neighbours(field, side):
-    fields = [(field[0] + row, field[1] + column) for row, column in STEPS]
-    return [(row, column) for row, column in fields if 0 <= row < side and 0 <= column < side]
-
-
 def distance(one, other):
     return abs(one[0] - other[0]) + abs(one[1] - other[1])
 
@@ -73,7 +69,3 @@ def questions(side, sight):
     yield ask("Pmax=?", "caught", coalition=("observer",))
     yield ask("Pmax=?", "out_with_item", coalition=("intruder", "observer"))
     yield sure("Pmax=?", "out_with_item", coalition=("intruder", "observer"))
-
-
-def known_as(side, sight):
-    return Known("PRISM-games' `avoid-the-observer`", kind=REBUILT)

@@ -20,7 +20,7 @@ hold their left forks, and one after the other fails and takes it again.
 
 from fractions import Fraction
 
-from gallery.families import OTHER, Known
+from gallery.families import OTHER, Known, changed
 from toolbox.model import CLOSED, Model, ask, sure
 
 HALF = Fraction(1, 2)
@@ -54,10 +54,6 @@ def moved(state, place, taken, coins):
         return [(1, changed(state, place, ("holds", side)))] if free else []
     other = fork_of(place, 1 - side, len(state))
     return [(1, changed(state, place, ("hungry", LEFT)) if other in taken else "eats")]
-
-
-def changed(state, place, doing):
-    return state[:place] + (doing,) + state[place + 1 :]
 
 
 def questions(philosophers, coins):

@@ -17,7 +17,6 @@ large grid with 3/8.
 import random
 from fractions import Fraction
 
-from gallery.families import Known
 from toolbox.explicit import ONLY_PLAYER
 from toolbox.model import BACKWARD, Model, ask, sure
 
@@ -48,6 +47,11 @@ def moved(field, step, side):
     return (row, column) if 0 <= row < side and 0 <= column < side else field
 
 
+def neighbours(field, rows, columns):
+    fields = [(field[0] + row, field[1] + column) for row, column in STEPS]
+    return [(row, column) for row, column in fields if 0 <= row < rows and 0 <= column < columns]
+
+
 def drawn_pits(side, seed):
     draw = random.Random(seed)
     fields = [(row, column) for row in range(side) for column in range(side)]
@@ -69,7 +73,3 @@ def questions(side, seed):
     way = ask("P>=3/4" if side <= FEW else "P>=3/8", "goal", coalition=(ONLY_PLAYER,))
     yield ask("Pmax=?", "goal", safe=way)
     yield ask("Pmax=?", way, path="G")
-
-
-def known_as(side, seed):
-    return Known()

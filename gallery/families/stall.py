@@ -19,7 +19,6 @@ them; S is their sum after all m. One step leads to the play.
 
 from fractions import Fraction
 
-from gallery.families import Known
 from toolbox.model import CLOSED, Model, ask
 
 HALF, PAYS = Fraction(1, 2), Fraction(9, 10)
@@ -62,7 +61,3 @@ def questions(stake):
     yield ask("P>=0.5", "won", HALF, CLOSED, coalition=("max",), options=rounds)
     for bound, tosses in (("Pmax=?", stake**2), ("P>0.6", 4 * stake**2)):
         yield ask(bound, "won", won_within(stake, tosses), CLOSED, coalition=("max",), steps=tosses + 1)
-
-
-def known_as(stake):
-    return Known()

@@ -23,12 +23,13 @@ from fractions import Fraction
 from itertools import combinations_with_replacement, permutations
 from typing import NamedTuple, Optional
 
-from gallery.families import REBUILT, Known
+from gallery.families import REBUILT, Known, changed
 from toolbox.model import Model, ask, sure
 
 RESOURCES = 3
 NEEDS = ((0, 1), (0, 2), (1, 2), (0, 1, 2))
 SIZES = {"small": [(3, 1, 1), (4, 1, 1), (4, 1, 2)], "large": [(5, 1, 2)]}
+KNOWN = Known("PRISM-games' team formation", kind=REBUILT)
 
 
 class Turn(NamedTuple):
@@ -94,7 +95,7 @@ def is_whole(turn, task):
 def after(turn, task):
     """The turn behind this one, in which the agent joins the team of a task or none."""
     agent = turn.agent
-    teams = turn.teams[:agent] + (task,) + turn.teams[agent + 1 :]
+    teams = changed(turn.teams, agent, task)
     return Turn(turn.tasks, teams, tuple(other for other in turn.waiting if other != agent))
 
 
@@ -112,7 +113,3 @@ def questions(agents, reach, tasks):
     yield ask("P>=0.5", "all_done", coalition=tuple(players[:-1]))
     yield ask("Pmax=?", "!all_done", coalition=tuple(players[-1:]), path="G")
     yield sure("Pmax=?", "one_done", coalition=tuple(players))
-
-
-def known_as(agents, reach, tasks):
-    return Known("PRISM-games' team formation", kind=REBUILT)

@@ -22,7 +22,6 @@ with 0.3 * 0.5, since it has to hit B, and C then to miss; and beside C, which s
 from fractions import Fraction
 from string import ascii_lowercase
 
-from gallery.families import Known
 from toolbox.model import BACKWARD, CLOSED, COMPUTED, Model, ask, sure
 
 MOSTELLER = ("0.3", "1", "0.5")
@@ -96,7 +95,3 @@ def questions_of_turns(known):
         yield ask("Pmax=?", ahead, *answer, coalition=tuple(coalition))
     answer = (Fraction(17, 20), CLOSED) if known else (None, COMPUTED)
     yield ask("Pmax=?", ("!", ahead), *answer, coalition=("b", "c"), path="G")
-
-
-def known_as(*hits):
-    return Known()

@@ -17,7 +17,6 @@ many of the wind lie between. With a formula inside the robot keeps to where it 
 
 from fractions import Fraction
 
-from gallery.families import Known
 from gallery.families.robot import STEPS, drawn_pits, moved
 from toolbox.model import BACKWARD, Model, ask, sure
 
@@ -57,7 +56,3 @@ def questions(side, seed):
     way = ask("P>=3/8", "goal", coalition=("robot",))
     yield ask("Pmax=?", "goal", coalition=("robot",), safe=way)
     yield ask("Pmax=?", way, coalition=("robot",), path="G")
-
-
-def known_as(side, seed):
-    return Known()

@@ -18,7 +18,7 @@ Value: the greatest chance of two collisions is published for 2 and 10, as 0.183
 from fractions import Fraction
 from typing import NamedTuple
 
-from gallery.families import Known
+from gallery.families import Known, changed
 from toolbox.model import CLOSED, Model, ask, sure
 
 QUIET, VULNERABLE, LEAST, UNHEARD, ANSWER, SLOT = 3, 1, 4, 6, 4, 1
@@ -56,8 +56,7 @@ def own_steps(state, place, most):
     station, mine, busy = stations[place], air[place], air != (NOTHING, NOTHING)
 
     def to(doing, clock=0, state=state, slots=station.slots):
-        changed = (Station(doing, clock, slots),)
-        return state[:2] + (state[2][:place] + changed + state[2][place + 1 :],)
+        return state[:2] + (changed(state[2], place, Station(doing, clock, slots)),)
 
     doing, clock = station.doing, station.clock
     if doing in QUIET_THEN:
@@ -101,13 +100,13 @@ def begun(state, place, most):
     """The state with a message of a station in the air, garbled where the other one has one there."""
     collisions, air, stations = state
     if air[1 - place] == NOTHING:
-        return (collisions, air[:place] + (WHOLE,) + air[place + 1 :], stations)
+        return (collisions, changed(air, place, WHOLE), stations)
     return (min(collisions + 1, most), (GARBLED, GARBLED), stations)
 
 
 def ended(state, place):
     collisions, air, stations = state
-    return (collisions, air[:place] + (NOTHING,) + air[place + 1 :], stations)
+    return (collisions, changed(air, place, NOTHING), stations)
 
 
 def aged(station, air, place, sending):

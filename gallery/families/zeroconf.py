@@ -28,6 +28,7 @@ ADDRESSES = 65024
 LOST = Fraction(1, 10)
 SOURCE = "Bohnenkamp and others 2003"
 SIZES = {"small": [(4, 1000), (2, 32512), (8, 60000)], "large": [(100000, 60000)]}
+KNOWN = Known("`zeroconf`", kind=OTHER)
 FEW = 8
 
 
@@ -70,7 +71,3 @@ def questions_of_danger(probes, used, value):
     yield ask("Pmax=?", danger, last_probe, CLOSED)
     yield ask("P>=0.99", ("!", danger), 1 - last_probe, CLOSED, path="G")
     yield ask("P>=0.999", safe, 1 - value, CLOSED)
-
-
-def known_as(probes, hosts):
-    return Known("`zeroconf`", kind=OTHER)
