@@ -27,6 +27,18 @@ SIGN = re.compile(r"<<|>>|>=|<=|=>|=\?|[><,\[\]()!&|]")
 FORMS = {WORD: "a word", NUMBER: "a number"}
 
 
+class Spelt(Fraction):
+    """A number that is printed as it was written."""
+
+    def __new__(cls, text):
+        number = super().__new__(cls, text)
+        number.text = text
+        return number
+
+    def __str__(self):
+        return self.text
+
+
 @dataclass(frozen=True)
 class Formula:
     """A formula, whose path is `U`, of `F` too, or `X` or `G`; a threshold is none where a value is asked for.
@@ -90,7 +102,7 @@ class Formula:
         path, team = self.path_words(), ", ".join(self.coalition or ())
         most = self.bound == "Pmax"
         if self.limit is not None:
-            bound = f"{SIGNS[self.bound]} {self.limit}"
+            bound = f"{SIGNS[self.bound]} {Fraction(self.limit)}"
             if team:
                 return f"Can {team}, whatever the others do, make sure that the probability is {bound} that {path}?"
             return f"Is the probability {bound}, under every strategy, that {path}?"
@@ -103,7 +115,9 @@ class Formula:
     def path_words(self):
         if self.path == "G":
             return f"at every time {state_words(self.right)}"
-        reached = f"at some time {state_words(self.right)}"
+        steps = self.horizon()
+        within = f"{'after' if self.path == 'X' else 'within'} {steps} step{'s' * (steps != 1)}"
+        reached = f"{'at some time' if steps is None else within} {state_words(self.right)}"
         return reached if self.left == TRUE else f"{reached}, and at each time before {state_words(self.left)}"
 
 
@@ -176,15 +190,20 @@ def holds(tree, labels, states):
     if kind in ("true", "false"):
         return bytearray([kind == "true"]) * states
     if kind == "label":
-        if tree[1].encode("ascii") not in labels:
-            raise Refusal("formula", None, f'the label file has no label "{tree[1]}"')
-        return labels[tree[1].encode("ascii")]
+        return labels_named(labels, tree[1])
     parts = [holds(part, labels, states) for part in tree[1:]]
     if kind == "!":
         return bytearray(1 - bit for bit in parts[0])
     if kind == "=>":
         return bytearray(map(operator.le, *parts))
     return bytearray(map(operator.and_ if kind == "&" else operator.or_, *parts))
+
+
+def labels_named(labels, label):
+    try:
+        return labels[label.encode("ascii")]
+    except KeyError:
+        raise Refusal("formula", None, f'the label file has no label "{label}"') from None
 
 
 def sides_of(formula, owners):
@@ -235,6 +254,14 @@ class Reader:
             if not "!" <= byte <= "~" or byte == '"' or count == MOST_NAME:
                 self.refuse("Unexpected", "no token of a formula")
         return self.refuse("End", "no token of a formula")
+
+    def tokens(self):
+        """The tokens from here on, each with what stands before it."""
+        end = self.place
+        while self.token():
+            start, token = self.place, self.take()
+            yield self.text[end:start], token
+            end = start + len(token)
 
     def take(self, wanted="more"):
         """The next token, which is passed; a text that ends here is refused."""
@@ -297,9 +324,10 @@ class Reader:
     def limit_of(self, token):
         """The number of a threshold."""
         try:
-            return Fraction(*fraction_of(token.encode("ascii")))
+            fraction_of(token.encode("ascii"))
         except ValueError as fault:
-            return self.refuse("BadNumber", f"threshold '{token}': {fault}")
+            self.refuse("BadNumber", f"threshold '{token}': {fault}")
+        return Spelt(token)
 
     def path(self):
         if self.token() in ("X", "G"):
@@ -317,7 +345,7 @@ class Reader:
         self.take()
         token = self.token()
         if NUMBER.fullmatch(token) and (not token.isdigit() or int(token) > MOST_STEPS):
-            self.refuse("BadSteps", f"'{token}' is no number of steps up to {MOST_STEPS}")
+            self.refuse("BadSteps", f"'{token}' in place of a number of steps")
         return int(self.expect(NUMBER))
 
     def state(self, level=0):

@@ -12,7 +12,7 @@ from fractions import Fraction
 from typing import Optional
 
 from toolbox.explicit import header_line, write_files
-from toolbox.formulas import TRUE, Formula
+from toolbox.formulas import TRUE, Formula, Spelt
 
 MOST_DIGITS = 30
 CLOSED = "closed form"
@@ -114,18 +114,6 @@ def mark_text(names, marks):
 
 
 # Questions
-
-
-class Spelt(Fraction):
-    """A number that is printed as it was written."""
-
-    def __new__(cls, text):
-        number = super().__new__(cls, text)
-        number.text = text
-        return number
-
-    def __str__(self):
-        return self.text
 
 
 @dataclass(frozen=True)

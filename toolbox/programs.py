@@ -54,11 +54,19 @@ def certificate_by(asker, question):
     return ended.output
 
 
-def audited(question, name):
-    """The run of an audit that accepts a certificate file."""
+def audited(question, name, shown=None):
+    """The run of an audit that accepts a certificate file; a refusal calls it by the second name, if there is one."""
     ended = run(program(), "audit", *question[:3], name, *question[3:])
     if " audited " not in ended.output:
-        raise Refusal(name, None, first_line(ended), status_of(ended))
+        raise Refusal(shown or name, None, first_line(ended), status_of(ended))
+    return ended
+
+
+def answered(command, question):
+    """The run of a command that answers a question."""
+    ended = run(program(), command, *question)
+    if ended.status not in (0, 1, 2):
+        raise Refusal(command, None, first_line(ended), status_of(ended))
     return ended
 
 

@@ -13,7 +13,6 @@ from pathlib import Path
 from unittest import mock
 
 from gallery.families import instances
-from gallery.solved import is_taken
 from toolbox.endings import Refusal, ended
 from toolbox.programs import BUILT, ROOT, program, run
 
@@ -112,12 +111,25 @@ class Certified:
 @lru_cache(maxsize=None)
 def certified_questions():
     """All questions of `check` that a certificate may be of, in the order of the models."""
+    return [one for one in plain_questions() if one.question.horizon() is None]
+
+
+def stepped_questions():
+    """All questions of `check` with a bound on the steps and no formula inside: the model's name, and the words."""
+    return [(one.name, one.words) for one in plain_questions() if one.question.horizon() is not None]
+
+
+@lru_cache(maxsize=None)
+def plain_questions():
+    """All questions of `check` with no formula inside, in the order of the models."""
     found = []
     for name, module, sizes in instances("small"):
         model, own = module.model(*sizes), MODELS / f"{name}.own"
-        for question in filter(is_taken, module.questions(*sizes)):
-            words = [*(str(MODELS / f"{name}.{ending}") for ending in ("tra", "lab")), question.formula()]
-            found.append(Certified(name, words + (["--own", str(own)] if own.exists() else []), model, question))
+        files, owners = [str(MODELS / f"{name}.{ending}") for ending in ("tra", "lab")], ["--own", str(own)]
+        for question in module.questions(*sizes):
+            if question.command == "check" and not question.inside():
+                words = [*files, question.formula(), *(owners if own.exists() else [])]
+                found.append(Certified(name, words, model, question))
     return found
 
 

@@ -7,11 +7,11 @@ import unittest
 from pathlib import Path
 from unittest import mock
 
-from toolbox.formulas import asked as Asked
-from toolbox.testing import TOOLS, InFolder, call_tool, needs_program, program, run
-from toolbox.testing import load as loaded
+from tools.test_reaudit import call
+from toolbox import evidence, programs
+from toolbox.formulas import Reader
+from toolbox.testing import EXAMPLES, TOOLS, InFolder, call_tool, load, needs_program, program, run
 
-EXAMPLES = TOOLS.parent / "examples"
 FORMULA = '<<p1>> P>=0.6 [ F "goal" ]'
 
 # a formula and its sentence
@@ -32,6 +32,12 @@ SENTENCES = [
      "anything holds?"),
     ('<<>> Pmax=? [ F "goal" ]', 'What is the least probability, over all strategies, that at some time "goal" holds?'),
     ('<<>> P>0 [ F "goal" ]', 'Is the probability more than 0, under every strategy, that at some time "goal" holds?'),
+    ('P>0 [ F<=1 "goal" ]', 'Is the probability more than 0, under every strategy, that within 1 step "goal" holds?'),
+    ('Pmax=? [ "safe" U<=020 "goal" ]',
+     'What is the greatest probability, over all strategies, that within 20 steps "goal" holds, and at each time '
+     'before "safe" holds?'),
+    ('Pmin=? [ X !"bad" ]',
+     'What is the least probability, over all strategies, that after 1 step "bad" does not hold?'),
 ]
 
 
@@ -39,7 +45,18 @@ class Sentences(unittest.TestCase):
     def test_questions_in_words(self):
         for formula, sentence in SENTENCES:
             with self.subTest(formula=formula):
-                self.assertEqual(Asked(formula).words(), sentence)
+                self.assertEqual(Reader(formula).whole().words(), sentence)
+
+
+def hashed(text):
+    """A dossier whose second line has the hash of what follows."""
+    first, _, body = text.split("\n", 2)
+    return f"{first}\n{load('dossier').second_line(body)}\n{body}"
+
+
+def second_here(question, *certificate):
+    """The run of the second audit, made in this process."""
+    return programs.Ended(*call(*question[:3], *certificate, *question[3:]))
 
 
 @needs_program
@@ -47,6 +64,9 @@ class Dossiers(InFolder):
     def setUp(self):
         super().setUp()
         os.environ["STOGAME"] = str(program())
+        here = mock.patch.object(evidence, "second_of", second_here)
+        here.start()
+        self.addCleanup(here.stop)
         for ending in ("tra", "lab", "own"):
             shutil.copy(EXAMPLES / f"two_players.{ending}", self.folder)
         self.files = [str(self.folder / f"two_players.{ending}") for ending in ("tra", "lab", "own")]
@@ -56,7 +76,7 @@ class Dossiers(InFolder):
 
     def test_what_it_has(self):
         lines = self.text.splitlines()
-        self.assertEqual(lines[0], "dossier 2")
+        self.assertEqual(lines[0], "dossier 3")
         for kind, name in zip(("tra", "lab", "own"), self.files):
             content = Path(name).read_bytes()
             self.assertIn(
@@ -65,7 +85,9 @@ class Dossiers(InFolder):
         content = Path(program()).read_bytes()
         self.assertIn(f"program sha256 {hashlib.sha256(content).hexdigest()} bytes {len(content)}", lines)
         self.assertIn(f"question {SENTENCES[4][1]}", lines)
-        self.assertIn("state 0 lower 0.650000000000000 upper 0.650000000000000 audited True", lines)
+        for asker, word in (("audit", "audited"), ("reaudit", "reaudited")):
+            line = f"state 0 lower 0.650000000000000 upper 0.650000000000000 {word} True"
+            self.assertIn(f"\nlines 1 status 0 by {asker}\n{line}\n", self.text)
         self.assertRegex(self.text, r"\nsources (unknown|commit [0-9a-f]+ (clean|changed))\nkit \S")
 
     def test_it_is_a_certificate(self):
@@ -82,7 +104,7 @@ class Dossiers(InFolder):
         self.assertIn(f"{script}: a script", errors)
 
     def test_behind_the_wrapper_is_what_was_built(self):
-        dossier = loaded("dossier")
+        dossier = load("dossier")
         with mock.patch.dict(os.environ, STOGAME=str(TOOLS.parent / "stogame")):
             self.assertEqual(dossier.program_file(), dossier.programs.BUILT)
 
@@ -97,8 +119,9 @@ class Dossiers(InFolder):
         ):
             with self.subTest(filed=filed, today=today):
                 rest = self.text[self.text.index("\nlines ") :]
-                name = self.write("filed", f"{self.text[:start]}\nsources commit 0 changed\n{filed}{rest}")
-                with mock.patch.object(loaded("dossier"), "provenance", lambda: ["sources unknown", today]):
+                text = f"{self.text[:start]}\nsources commit 0 changed\n{filed}{rest}"
+                name = self.write("filed", hashed(text))
+                with mock.patch.object(load("dossier"), "provenance", lambda: ["sources unknown", today]):
                     ended, output, errors = call_tool("dossier", "--verify", name)
                 self.assertEqual(ended, status)
                 self.assertIn(said, output + errors)
@@ -120,16 +143,19 @@ class Dossiers(InFolder):
         lines = self.text.split("\n")
         start = next(place for place, line in enumerate(lines) if line.startswith("certificate "))
         for place in range(1, start):
-            if not lines[place].startswith(("formula ", "sources ", "kit ", "tra ", "lab ", "own ")):
+            if not lines[place].startswith(("formula ", "sources ", "kit ", "tra ", "lab ", "own ", "file ")):
                 with self.subTest(line=lines[place]):
                     for instead in ([lines[place] + "x"], [], [lines[place]] * 2):
                         errors = self.refused(1, [*lines[:place], *instead, *lines[place + 1 :]])
                         self.assertEqual(errors.count("\n"), 1, errors)
-        self.refused(4, ["dossier 1", *lines[1:]])
+        self.refused(4, ["dossier 2", *lines[1:]])
+        for kind in ("sources ", "kit "):
+            errors = self.refused(1, [line + "x" if line.startswith(kind) else line for line in lines])
+            self.assertIn("line 2: it is 'sha256 ", errors)
         self.refused(4, [line for line in lines if not line.startswith("kit ")])
         self.refused(8, [line.replace("0.650000000000000 1", "0.650000000000001 1") for line in lines])
         self.refused(1, [line.replace("P>=0.6", "P>=0.7") for line in lines])
-        self.refused(4, lines[:start])
+        self.refused(8, lines[:start])
 
     def refused(self, ended, lines):
         name = self.write("changed", "\n".join(lines))
@@ -147,7 +173,7 @@ class Dossiers(InFolder):
     def test_given_certificates(self):
         cert = self.write("cert", "\n".join(self.text.splitlines()[-5:]) + "\n")
         self.assertEqual(call_tool("dossier", *self.words, "--cert", cert), (0, self.text, ""))
-        self.assertEqual(call_tool("dossier", *self.words, "--by", "solve")[0], 0)
+        self.assertEqual(call_tool("dossier", *self.words, "--by", "check")[0], 0)
         cert = self.write("cert", "certificate 2 4\n")
         self.assertEqual(
             call_tool("dossier", *self.words, "--cert", cert),
@@ -172,9 +198,6 @@ class Dossiers(InFolder):
                     self.assertIn(f"dossier: {cert}: {text}", errors)
 
     def test_no_certificate_no_dossier(self):
-        status, output, errors = call_tool("dossier", *self.files[:2], 'Pmax=? [ X "goal" ]')
-        self.assertEqual((status, output, errors), (4, "", "dossier: check: refused question line 0 WrongKind\n"))
-
-
-if __name__ == "__main__":
-    unittest.main()
+        status, output, errors = call_tool("dossier", *self.files[:2], 'Pmax=? [ F "gaol" ]')
+        said = "dossier: solve: refused question line 0 UnknownLabel gaol\n"
+        self.assertEqual((status, output, errors), (4, "", said))

@@ -131,7 +131,8 @@ class OwnerFiles(InFolder):
         self.assertEqual(list(written), ["other"])
 
     def test_faults(self):
-        for text, options, line, cause in [*REFUSED, *((text, [], line, f"{cause}\n") for text, line, cause in REFUSED_ROWS)]:
+        rows = ((text, [], line, f"{cause}\n") for text, line, cause in REFUSED_ROWS)
+        for text, options, line, cause in [*REFUSED, *rows]:
             with self.subTest(text):
                 self.not_used(cause if line is None else f"line {line}: {cause}", text, *options)
 

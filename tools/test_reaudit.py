@@ -1,5 +1,5 @@
 """The second audit: it says what `stogame audit` says of the gallery's certificates, of a thousand that were changed,
-and of models and formulas that were damaged."""
+and of models and formulas that were damaged; and of steps what `stogame check` says."""
 
 import contextlib
 import io
@@ -11,6 +11,7 @@ from functools import lru_cache
 from unittest import mock
 
 from toolbox.testing import TOOLS, InFolder, certified_models, certified_questions, load, needs_program, program, run
+from toolbox.testing import stepped_questions
 
 CHANGED = 1000
 DAMAGED = 200
@@ -55,6 +56,20 @@ WORKED = [
     (FORMULA, 3, "", "refused cert line 5 MissingLine"),
 ]
 
+# a formula with a bound on the steps, and what is written
+STEPPED = [
+    ('<<p1>> P>=0.6 [ F<=1 "goal" ]', "state 0 lower 0.650000000000000 upper 0.650000000000000 steps 1 True"),
+    ('<<p1>> P<0.6 [ F<=1 "goal" ]', "state 0 lower 0.000000000000000 upper 0.000000000000000 steps 1 True"),
+    ('<<p1>> P<0.6 [ F<=2 "goal" ]', "state 0 lower 0.500000000000000 upper 0.500000000000000 steps 2 True"),
+    ('<<p2>> Pmax=? [ true U<=0 "goal" ]', "state 0 lower 0.000000000000000 upper 0.000000000000000 steps 0 Bracket"),
+    ('Pmax=? [ "goal" U<=007 "goal" ]', "state 0 lower 0.000000000000000 upper 0.000000000000000 steps 7 Bracket"),
+    ('Pmax=? [ "init" U<=1000000 "goal" ]',
+     "state 0 lower 0.650000000000000 upper 0.650000000000000 steps 1000000 Bracket"),
+    ('Pmin=? [ X !"goal" ]', "state 0 lower 0.350000000000000 upper 0.350000000000000 steps 1 Bracket"),
+    ('Pmin=? [ X true ]', "state 0 lower 1.000000000000000 upper 1.000000000000000 steps 1 Bracket"),
+    ('P>=0.5 [ X "init" ]', "state 0 lower 0.000000000000000 upper 0.000000000000000 steps 1 False"),
+]
+
 
 def call(*words):
     """Runs the tool in this process, and gives its status, output and errors."""
@@ -79,6 +94,24 @@ class Worked(InFolder):
                 self.write("certificate", "certificate 2 4\n" + "\n".join(entries) + "\n")
                 _, output, errors = call(*self.words(formula))
                 self.assertEqual((output, errors), (line + "\n", ""))
+
+    def test_steps(self):
+        for formula, line in STEPPED:
+            with self.subTest(formula=formula):
+                words = self.words(formula)
+                self.assertEqual(call(*words[:3], *words[4:])[1:], (line + "\n", ""))
+
+    def test_each_step_is_rounded(self):
+        """In a chain that stays with one third at each state no value is a whole number of units."""
+        words = [
+            str(self.write("m.tra", "3 5\n0 0 1/3\n0 1 2/3\n1 1 1/3\n1 2 2/3\n2 2 1\n")),
+            str(self.write("m.lab", '0="init" 1="goal"\n0: 0\n2: 1\n')),
+        ]
+        for steps, low, high in ((1, "0.0", "0.0"), (2, "0.444444444444444", "0.444444444444445"),
+                                 (3, "0.740740740740740", "0.740740740740741")):
+            with self.subTest(steps=steps):
+                line = f"state 0 lower {low:0<17} upper {high:0<17} steps {steps} Bracket\n"
+                self.assertEqual(call(*words, f'Pmax=? [ F<={steps} "goal" ]')[1], line)
 
     def test_a_rank_that_does_not_fall(self):
         """The maximiser may stay at state 0, or go to the goal, state 1:
@@ -118,8 +151,12 @@ class Worked(InFolder):
         for formula, said in (
             ('P>=0.5 [ F "gaol" ]', 'there is no label "gaol"'),
             ('P>=0.5 [ F xgoalx ]', "xgoalx in place of a label"),
-            ('P>=0.5 [ X "goal" ]', "X in place of a label"),
-            ('P>=0.5 [ F<=3 "goal" ]', "<= in place of a label"),
+            ('P>=0.5 [ X "goal" ]', "a bound on the steps, of which there is no certificate"),
+            ('P>=0.5 [ F<=3 "goal" ]', "a bound on the steps, of which there is no certificate"),
+            ('P>=0.5 [ F<=3. "goal" ]', "'3.' is no whole number"),
+            ('P>=0.5 [ true U<=1000001 "goal" ]', "more than 1000000 steps"),
+            ('P>=0.5 [ G<=3 "goal" ]', "<= in place of a label"),
+            ('P>=0.5 [ X<=3 "goal" ]', "<= in place of a label"),
             ('P<=2 [ F "goal" ]', "a threshold above 1"),
             ('<<p3>> Pmax=? [ F "goal" ]', "a player of the coalition is not in the owner file"),
             ('Pmax=? [ F ("goal" ]', "] in place of )"),
@@ -134,7 +171,7 @@ class Worked(InFolder):
         said = f"reaudit: cannot read {none}: no such file or directory\n"
         for place in (0, 1, 3, 5):
             self.assertEqual(call(*words[:place], none, *words[place + 1 :]), (5, "", said))
-        self.assertEqual(call(*words[:3])[:2], (3, ""))
+        self.assertEqual(call(*words[:3], *words[4:])[:2], (3, ""))
         self.write("certificate", "certificate 2 4\n" + "\n".join(ENTRIES) + "\n")
         command = " ".join(f"'{word}'" for word in (sys.executable, TOOLS / "reaudit", *words))
         for output, cause in (("> /dev/full", "no storage space"), (">&-", "bad file descriptor")):
@@ -143,8 +180,8 @@ class Worked(InFolder):
 
     def test_short_and_alone(self):
         lines = (TOOLS / "reaudit").read_text().splitlines()
-        self.assertLessEqual(len(lines), 400)
-        others = {path.name.split(".")[0] for path in TOOLS.iterdir()} - {"reaudit"}
+        self.assertLessEqual(len(lines), 450)
+        others = {"toolbox", *(path.name.split(".")[0] for path in TOOLS.iterdir())} - {"reaudit"}
         for line in lines:
             found = re.match(r"(?:from|import) (\w+)", line)
             self.assertFalse(found and found[1] in others, line)
@@ -342,12 +379,13 @@ class Damaged(InFolder):
         return {**texts, kind: damaged(draw, kind, texts[kind])} if kind else texts
 
     def compare(self, kind, texts):
-        """Asks both, and gives the status."""
+        """Asks both, about steps where there is no certificate, and gives the status."""
         names = {one: str(self.folder / one) for one in texts if one != "formula"}
         for one, name in names.items():
             (self.folder / one).write_bytes(texts[one].encode("latin-1"))
-        words = [names["tra"], names["lab"], texts["formula"], names["cert"], "--own", names["own"]]
-        ended, said, _ = run(program(), "audit", *words)
+        cert = [names["cert"]] if "cert" in names else []
+        words = [names["tra"], names["lab"], texts["formula"], *cert, "--own", names["own"]]
+        ended, said, _ = run(program(), "audit" if cert else "check", *words)
         status, output, errors = call(*words)
         self.assertEqual(status, ended, (said, output, errors))
         if status == 4:
@@ -378,6 +416,20 @@ class Damaged(InFolder):
                 self.assertTrue(DAMAGED / 4 < refused < DAMAGED, refused)
 
 
+    def test_steps(self):
+        """Of damaged formulas that still have a bound on the steps both write the same lines."""
+        draw, statuses = random.Random("steps"), []
+        formulas = ('<<p1>> P>=0.6 [ F<=2 "goal" ]', 'Pmax=? [ !"init" U<=3 "goal" ]', 'P<1 [ X "goal" | "init" ]')
+        for number in range(DAMAGED):
+            texts = {**self.texts(None, draw), "formula": damaged(draw, "formula", draw.choice(formulas))}
+            del texts["cert"]
+            steps = re.search(r"(\bX\b|<=\s*[0-9]+\b(?![^[]*\[))", texts["formula"])
+            if steps and not re.search("\0|P.*P", texts["formula"]):
+                with self.subTest(number=number, text=texts["formula"]):
+                    statuses.append(self.compare("formula", texts))
+        self.assertTrue(DAMAGED / 8 < statuses.count(4) < len(statuses) * 7 / 8, len(statuses))
+
+
 @needs_program
 class Alike(InFolder):
     """The program and the second audit write the same, but for the word for it."""
@@ -394,6 +446,11 @@ class Alike(InFolder):
             with self.subTest(model=one.name, formula=one.words[2]):
                 self.assertIn(" audited ", self.compare(one, question_of(one), one.text))
 
+    def test_steps_of_the_gallery(self):
+        for name, words in stepped_questions():
+            with self.subTest(model=name, formula=words[2]):
+                self.assertEqual(call(*words), run(program(), "check", *words))
+
     def test_changed_ones(self):
         draw = random.Random(17)
         few = [one for one in certified_models() if one.states() <= MOST_STATES]
@@ -405,7 +462,3 @@ class Alike(InFolder):
                 text = changed(draw, few[place].text.splitlines(), few[place].start)
                 accepted += " audited " in self.compare(few[place], questions[place], text)
         self.assertTrue(CHANGED / 20 < accepted < CHANGED / 2, accepted)
-
-
-if __name__ == "__main__":
-    unittest.main()
