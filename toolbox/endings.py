@@ -75,6 +75,14 @@ class Words(argparse.ArgumentParser):
             form.add_argument(f"--{option}", help=f"write {option.upper()}", **told)
 
 
+def pairs_of(text, form, is_value):
+    """A map from the names to the values of a list such as `1=anna,2=bert`."""
+    pairs = [pair.partition("=") for pair in text.split(",")]
+    if not all(name and sign and is_value(value) for name, sign, value in pairs):
+        raise argparse.ArgumentTypeError(f"'{text}' is no list of {form}")
+    return {name: value for name, _, value in pairs}
+
+
 def tell(name, text):
     """A line on standard error, where that takes one."""
     if sys.stderr is not None:

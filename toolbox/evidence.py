@@ -17,7 +17,6 @@ from toolbox.formulas import Reader, labels_named
 
 REAUDIT = programs.ROOT / "tools" / "reaudit"
 UNDECIDED = 2
-REPORT = re.compile(r"state ([0-9]+) lower (\S+) upper (\S+) .* (\w+)")
 
 Part = namedtuple("Part", "number formula steps labels certificate asker report second true")
 Part.__doc__ = """A part that was answered: its number and formula; its bound on the steps or None; the texts of its
@@ -92,7 +91,7 @@ class Argument:
         self.names, self.whole, self.states = Names(""), None, None
         if is_nested(formula):
             self.whole = programs.answered("solve", self.question(files["lab"], formula))
-            self.states = states_of(files["tra"])
+            self.states = explicit.header_of(files["tra"]).states
             self.given = explicit.read_labels(files["lab"], self.states)
             self.names = names_beside(self.given)
         self.formulas = taken_apart(formula, self.names)
@@ -147,12 +146,6 @@ class Argument:
         return marks
 
 
-def states_of(name):
-    """How many states the header of a transition file states."""
-    _, rows = next(explicit.field_blocks(name), (1, [[]]))
-    return explicit.header_of(name, rows[0]).states
-
-
 def second_of(question, *certificate):
     """The run of the second audit."""
     return programs.run(sys.executable, REAUDIT, *question[:3], *certificate, *question[3:])
@@ -170,7 +163,7 @@ def true_states(formula, report):
 
 def verdicts_of(report):
     """The verdict at each state that a report is about."""
-    found = filter(None, map(REPORT.fullmatch, report.output.splitlines()))
+    found = filter(None, map(programs.REPORT.fullmatch, report.output.splitlines()))
     return {int(line[1]): line[4] for line in found}
 
 

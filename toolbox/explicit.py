@@ -8,7 +8,6 @@ over the total. Lists are flat: the choices of state s are those from choice_sta
 edges of choice c those from edge_start[c] to edge_start[c + 1].
 """
 
-import argparse
 import os
 import re
 import tempfile
@@ -16,7 +15,7 @@ from array import array
 from collections import namedtuple
 from math import gcd, lcm
 
-from toolbox.endings import OUTPUT, Refusal, unread, unwritten
+from toolbox.endings import OUTPUT, Refusal, pairs_of, unread, unwritten
 
 MOST_STATES = 1_000_000
 MOST_CHOICES = 16_384
@@ -77,6 +76,12 @@ def field_blocks(name):
                 rows, blank = without_blanks(name, number, rows, blank)
             yield number, rows
             number += len(lines)
+
+
+def field_rows(name):
+    """The fields of each line, with its number."""
+    for number, rows in field_blocks(name):
+        yield from enumerate(rows, number)
 
 
 def without_blanks(name, number, rows, blank):
@@ -317,7 +322,9 @@ class Header(namedtuple("Header", "states choices lines")):
         return 3 if self.is_chain else 4
 
 
-def header_of(name, row):
+def header_of(name, row=None):
+    """The header of a transition file, whose first line may have been read."""
+    row = next(field_rows(name), (1, []))[1] if row is None else row
     if len(row) not in (2, 3) or not b"".join(row).isdigit():
         raise Refusal(name, 1, "the header is not two or three whole numbers")
     numbers = [int(field) for field in row]
@@ -429,17 +436,11 @@ def read_header_items(name, row, is_name, kind):
 
 def read_state_lines(name, states, is_name, kind):
     """The names of the header; then for each line its number, its state and the names that stand behind the colon."""
-    blocks = field_blocks(name)
-    number, block = next(blocks, (1, []))
-    names = read_header_items(name, block[0] if block else [], is_name, kind)
+    rows = field_rows(name)
+    names = read_header_items(name, next(rows, (1, []))[1], is_name, kind)
     yield names
-    number, block = 2, block[1:]
-    while True:
-        for offset, row in enumerate(block):
-            yield number + offset, *state_line(name, number + offset, row, states, names, kind)
-        number, block = next(blocks, (number, None))
-        if block is None:
-            return
+    for number, row in rows:
+        yield number, *state_line(name, number, row, states, names, kind)
 
 
 def state_line(name, number, row, states, names, kind):
@@ -488,10 +489,8 @@ def read_owners(name, states):
 
 def names_of(text):
     """Names by value, as `1=anna,2=bert` has them."""
-    pairs = [pair.partition("=") for pair in text.split(",")]
-    if not all(value and sign and PLAYER_NAME.match(name.encode()) for value, sign, name in pairs):
-        raise argparse.ArgumentTypeError(f"'{text}' is no list of VALUE=NAME")
-    return {value.encode(): name.encode() for value, _, name in pairs}
+    pairs = pairs_of(text, "VALUE=NAME", lambda name: PLAYER_NAME.match(name.encode()))
+    return {value.encode(): name.encode() for value, name in pairs.items()}
 
 
 def player_name(value, names, variable=b""):

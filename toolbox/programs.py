@@ -1,6 +1,7 @@
 """The built program: where it is, how it is run and asked, and what its lines say."""
 
 import os
+import re
 import subprocess
 from collections import namedtuple
 from fractions import Fraction
@@ -14,6 +15,8 @@ BUILT = ROOT / "crates" / "stogame" / "out" / "stogame"
 ANSWERED, WITHOUT_ANSWER = (0, 1, 2), range(3, 10)
 UNIT = Fraction(1, 10**15)
 TRUTHS = {"True": True, "False": False}
+
+REPORT = re.compile(r"state ([0-9]+) lower (\S+) upper (\S+) .* (\w+)")
 
 Ended = namedtuple("Ended", "status output errors")
 
@@ -65,7 +68,7 @@ def audited(question, name, shown=None):
 def answered(command, question):
     """The run of a command that answers a question."""
     ended = run(program(), command, *question)
-    if ended.status not in (0, 1, 2):
+    if ended.status not in ANSWERED:
         raise Refusal(command, None, first_line(ended), status_of(ended))
     return ended
 

@@ -5,7 +5,7 @@ import json
 import re
 
 from toolbox.endings import Refusal
-from toolbox.explicit import field_blocks, open_bytes, shown, write_files
+from toolbox.explicit import field_rows, header_of, open_bytes, shown, write_files
 
 LINE = re.compile(r"(?:([0-9]+)|\(([^()]*)\))\s*[:=\s]\s*(\S+)\Z")
 
@@ -121,15 +121,10 @@ class ChoiceNames:
 def read_choice_names(name, model):
     """The names in a transition file that was read as this model.
     Of a Markov chain no name is kept, since it has no choices."""
-    names = [None] * len(model.weights)
-    width = None
-    for first, rows in field_blocks(name):
-        if width is None:
-            width, first, rows = len(rows[0]) + 1, first + 1, rows[1:]
-        if width == 3:
-            break
-        for number, row in enumerate(rows, first):
-            add_name(name, number, row, names, model)
+    names, rows = [None] * len(model.weights), field_rows(name)
+    is_chain = len(next(rows)[1]) == 2
+    for number, row in () if is_chain else rows:
+        add_name(name, number, row, names, model)
     return ChoiceNames(model, [action or None for action in names])
 
 
@@ -185,29 +180,19 @@ def transition_text(name, chosen):
         lines += 1
         choices.add((row[0], row[1]))
     head = header_of(name)
-    counts = [head[0], len(choices), lines] if len(head) == 3 else [head[0], lines]
-    yield " ".join(str(int(count)) for count in counts) + "\n"
+    counts = [head.states, lines] if head.is_chain else [head.states, len(choices), lines]
+    yield " ".join(map(str, counts)) + "\n"
     for row in kept_rows(name, chosen):
         yield b" ".join(row).decode("ascii", "surrogateescape") + "\n"
 
 
-def header_of(name):
-    for _, rows in field_blocks(name):
-        return rows[0]
-
-
 def kept_rows(name, chosen):
     """The lines of the choices that are left. In a Markov chain each state has one choice, so all are."""
-    head = None
-    for _, rows in field_blocks(name):
-        if head is None:
-            head, rows = rows[0], rows[1:]
-        if len(head) == 2:
-            yield from rows
-            continue
-        for row in rows:
-            move = chosen[int(row[0])]
-            if move is None:
-                yield row
-            elif int(row[1]) == move:
-                yield [row[0], b"0", *row[2:]]
+    rows = field_rows(name)
+    is_chain = len(next(rows)[1]) == 2
+    for _, row in rows:
+        move = None if is_chain else chosen[int(row[0])]
+        if move is None:
+            yield row
+        elif int(row[1]) == move:
+            yield [row[0], b"0", *row[2:]]

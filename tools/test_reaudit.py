@@ -1,8 +1,6 @@
 """The second audit: it says what `stogame audit` says of the gallery's certificates, of a thousand that were changed,
 and of models and formulas that were damaged; and of steps what `stogame check` says."""
 
-import contextlib
-import io
 import random
 import re
 import sys
@@ -10,8 +8,8 @@ import unittest
 from functools import lru_cache
 from unittest import mock
 
-from toolbox.testing import TOOLS, InFolder, certified_models, certified_questions, load, needs_program, program, run
-from toolbox.testing import stepped_questions
+from toolbox.testing import TOOLS, InFolder, call_tool, certified_models, certified_questions, load, needs_program
+from toolbox.testing import program, run, stepped_questions
 
 CHANGED = 1000
 DAMAGED = 200
@@ -72,12 +70,7 @@ STEPPED = [
 
 
 def call(*words):
-    """Runs the tool in this process, and gives its status, output and errors."""
-    output, errors = io.StringIO(), io.StringIO()
-    asked = mock.patch.object(sys, "argv", ["reaudit", *words])
-    with asked, contextlib.redirect_stdout(output), contextlib.redirect_stderr(errors):
-        status = reaudit.main()
-    return status, output.getvalue(), errors.getvalue()
+    return call_tool("reaudit", *words)
 
 
 class Worked(InFolder):
