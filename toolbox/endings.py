@@ -67,10 +67,12 @@ class Words(argparse.ArgumentParser):
         for option, text in helps.items():
             self.add_argument(f"--{option}", metavar="FILE", help=text)
 
-    def add_forms(self, text, **forms):
-        """Options that each name a form of the output with what writes it, which is text where none is named."""
+    def add_forms(self, rows, write_json):
+        """Options for the form of the output, which is text where none is named; `rows` gives the rows of what is told,
+        for text or for CSV."""
+        text, as_csv = (lambda told: write_text(lambda: rows(told, True))), lambda told: write_csv(rows(told, False))
         form = self.add_mutually_exclusive_group()
-        for option, write in forms.items():
+        for option, write in (("csv", as_csv), ("json", write_json)):
             told = {"dest": "write", "action": "store_const", "const": write, "default": text}
             form.add_argument(f"--{option}", help=f"write {option.upper()}", **told)
 
@@ -139,5 +141,5 @@ def text_cell(value):
 def write_csv(rows):
     """Fields with commas between: a list has blanks between, and where there is nothing the field is empty."""
     writer = csv.writer(sys.stdout, lineterminator="\n")
-    for row in rows():
+    for row in rows:
         writer.writerow([" ".join(value) if isinstance(value, list) else value for value in row])

@@ -14,6 +14,7 @@ from pathlib import Path
 from toolbox import explicit, programs
 from toolbox.endings import Ending, Refusal
 from toolbox.formulas import Reader, labels_named
+from toolbox.model import mark_text, states_by_mark
 
 REAUDIT = programs.ROOT / "tools" / "reaudit"
 UNDECIDED = 2
@@ -70,12 +71,8 @@ def labels_of(formula):
 
 def label_text(marks):
     """The text of a label file; `marks` gives for each label a byte for each state."""
-    head = explicit.header_line(marks)
-    lines = []
-    for state, row in enumerate(zip(*marks.values())):
-        if any(row):
-            lines.append(f"{state}: {' '.join(str(index) for index, bit in enumerate(row) if bit)}\n")
-    return head + "".join(lines)
+    labels = {label: [state for state, bit in enumerate(bits) if bit] for label, bits in marks.items()}
+    return mark_text(labels, states_by_mark(labels))
 
 
 class Argument:

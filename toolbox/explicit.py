@@ -31,7 +31,6 @@ COMPRESSED = {b"\x1f\x8b": "gzip (.gz)", b"\xfd7zXZ\0": "xz (.xz)"}
 MOST_MAGIC = max(map(len, COMPRESSED))
 
 BLOCK_BYTES = 1 << 18
-MOST_REMEMBERED = 1 << 18
 
 LABEL_NAME = re.compile(rb'[!#-~]{1,255}\Z')
 PLAYER_NAME = re.compile(rb"[A-Za-z_][A-Za-z0-9_]{0,254}\Z")
@@ -361,9 +360,7 @@ def model_of(rows):
 
 def model_of_sorted(rows):
     """The model of lines sorted by source and choice; a state without a line moves to itself."""
-    sources, choices, targets, shares = rows.sources, rows.choices, rows.targets, rows.shares
-    distributions = Distributions(rows)
-    model = Model()
+    sources, choices, made, model = rows.sources, rows.choices, {}, Model()
     count, edge, stated = len(sources), 0, 0
     for state in range(rows.header.states):
         choice = 0
@@ -373,7 +370,7 @@ def model_of_sorted(rows):
             end = edge + 1
             while end < count and choices[end] == choice and sources[end] == state:
                 end += 1
-            distributions.add(model, state, choice, targets[edge:end], shares[edge:end])
+            add_distribution(model, rows, made, state, choice, slice(edge, end))
             edge = end
             choice += 1
         stated += choice
@@ -387,32 +384,20 @@ def model_of_sorted(rows):
     return model
 
 
-class Distributions:
-    """Makes choices of their parts, and remembers those that it has made."""
-
-    def __init__(self, rows):
-        self.name = rows.name
-        self.fractions = rows.fractions
-        self.made = {}
-
-    def add(self, model, state, choice, targets, places):
-        key = places.tobytes()
-        made = self.made.get(key)
-        if made is None:
-            made = self.make(state, choice, places)
-            if len(self.made) < MOST_REMEMBERED:
-                self.made[key] = made
-        weights, total = made
-        if 0 in weights:
-            kept = [place for place, weight in enumerate(weights) if weight]
-            targets, weights = ([column[place] for place in kept] for column in (targets, weights))
-        model.add_choice(targets, weights, total)
-
-    def make(self, state, choice, places):
+def add_distribution(model, rows, made, state, choice, edges):
+    """Adds a choice of these lines; its weights are those that were made of the same probabilities before."""
+    targets, places = rows.targets[edges], rows.shares[edges]
+    key = places.tobytes()
+    if key not in made:
         try:
-            return weights_of([self.fractions[place] for place in places])
+            made[key] = weights_of([rows.fractions[place] for place in places])
         except ValueError as fault:
-            raise Refusal(self.name, None, f"state {state} choice {choice}: {fault}") from fault
+            raise Refusal(rows.name, None, f"state {state} choice {choice}: {fault}") from fault
+    weights, total = made[key]
+    if 0 in weights:
+        kept = [place for place, weight in enumerate(weights) if weight]
+        targets, weights = ([column[place] for place in kept] for column in (targets, weights))
+    model.add_choice(targets, weights, total)
 
 
 # Labels and owners
