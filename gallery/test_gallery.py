@@ -4,7 +4,6 @@ import contextlib
 import io
 import os
 import random
-import stat
 import tempfile
 import unittest
 from fractions import Fraction
@@ -24,6 +23,7 @@ from toolbox.drawn import drawn_game, drawn_question, drawn_values, fault_of, st
 from toolbox.exact import exact_values, plain_value_iteration
 from toolbox.model import CLOSED, Model, ask, spelt, sure
 from toolbox.programs import bracket_of
+from toolbox.testing import InFolder
 
 MOST_STATES, MOST_STEPS = 130, 300
 HALF = Fraction(1, 2)
@@ -306,18 +306,14 @@ SOLVED = "state 0 lower 0.{} upper 0.{} {} {}"
 LOOSE = SOLVED.format("4" + "9" * 14, "5" + "0" * 13 + "1", "solved", "Bracket")
 
 
-class Solving(unittest.TestCase):
+class Solving(InFolder):
     """What is required of `solve`, over a program that is made up, which prints the same lines of every question."""
 
     def setUp(self):
-        room = tempfile.TemporaryDirectory()
-        self.addCleanup(room.cleanup)
-        program = Path(room.name) / "program"
-        program.write_text(MADE_UP, encoding="ascii")
-        program.chmod(program.stat().st_mode | stat.S_IXUSR)
-        kept = dict(os.environ)
-        self.addCleanup(lambda: (os.environ.clear(), os.environ.update(kept)))
-        os.environ["STOGAME"] = str(program)
+        super().setUp()
+        around = mock.patch.dict(os.environ, STOGAME=self.write_command(MADE_UP))
+        around.start()
+        self.addCleanup(around.stop)
 
     def answer(self, line, audit, question=ask("Pmax=?", "goal"), value=HALF):
         os.environ.update(LINE=line, AUDIT=audit)
@@ -377,14 +373,13 @@ class Solving(unittest.TestCase):
             self.assertFalse(is_taken(question))
 
     def test_one_line_for_a_formula(self):
-        with tempfile.TemporaryDirectory() as room:
-            path = Path(room) / "lines.tsv"
-            write_lines(path, ["b", "a", "b", "c"], {"a": "1", "b": "2"})
-            self.assertEqual(path.read_text(encoding="ascii"), "b\t2\na\t1\n")
-            self.assertEqual(read_lines(path), {"a": "1", "b": "2"})
+        path = self.folder / "lines.tsv"
+        write_lines(path, ["b", "a", "b", "c"], {"a": "1", "b": "2"})
+        self.assertEqual(path.read_text(encoding="ascii"), "b\t2\na\t1\n")
+        self.assertEqual(read_lines(path), {"a": "1", "b": "2"})
 
 
-class Page(unittest.TestCase):
+class Page(InFolder):
     def test_a_section(self):
         """One row for a question; two where it is long; and the verdict of `solve` only where it is another one."""
         value, line = Fraction(1, 3), "state 0 lower 0.25 upper 0.5 {} {}"
@@ -423,11 +418,9 @@ class Page(unittest.TestCase):
             "\n### b\n\n4 states, 4 choices, 6 moves. Values: computed in fractions.\n\n" + head
             + '| `Pmax=? [ F "goal" ]` | 1 |  | sure 4 of 4 |  |\n<!-- end of small -->\nbehind\n'
         )
-        with tempfile.TemporaryDirectory() as room:
-            path = Path(room) / "page"
-            path.write_text("before\n<!-- small -->\nold\n<!-- end of small -->\nbehind\n", encoding="utf-8")
-            write_markdown(path, "small", answers, models)
-            self.assertEqual(path.read_text(encoding="utf-8"), wanted)
+        path = self.write("page", "before\n<!-- small -->\nold\n<!-- end of small -->\nbehind\n")
+        write_markdown(path, "small", answers, models)
+        self.assertEqual(path.read_text(encoding="utf-8"), wanted)
 
     def test_both_bounds(self):
         for bracket, text in (

@@ -64,6 +64,12 @@ class InFolder(unittest.TestCase):
         path.write_text(text, encoding="ascii")
         return path
 
+    def write_command(self, text):
+        """Writes a program that is made up."""
+        path = self.write("program", text)
+        path.chmod(0o755)
+        return str(path)
+
     def written(self):
         """The texts of the files of the folder, by name."""
         return {path.name: path.read_text(encoding="ascii") for path in self.folder.iterdir()}

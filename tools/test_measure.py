@@ -1,6 +1,5 @@
 """Tests of tools/measure, over a program that is made up, and over the built one where there is one."""
 
-import stat
 import sys
 import unittest
 
@@ -32,9 +31,7 @@ STALL = measure.Entry("traps", "stall-1", '<<max>> Pmax=? [ F "won" ]')
 class MadeUp(InFolder):
     def setUp(self):
         super().setUp()
-        path = self.write("program", MADE_UP)
-        path.chmod(path.stat().st_mode | stat.S_IXUSR)
-        self.program = str(path)
+        self.program = self.write_command(MADE_UP)
         self.files = measure.Files(STALL, self.folder)
 
     def test_the_files_of_a_model(self):

@@ -85,20 +85,18 @@ REFUSED = [
      "line 6: more behind the line of the last state, 2"),
 ]
 
+# what is said of a strategy, by side
+MOST = "state 0 maximiser guarantees at least {0} and no more than {0} audited {1}\n"
+LEAST = "state 0 minimiser guarantees at most {0} and no less than {0} audited {1}\n"
+
 # a strategy, and what is said of it
 GUARANTEED = [
-    ("0:throw\n", 0,
-     "state 0 maximiser guarantees at least 0.650000000000000 and no more than 0.650000000000000 audited True\n"),
-    ("0=1\n", 0,
-     "state 0 maximiser guarantees at least 0.650000000000000 and no more than 0.650000000000000 audited True\n"),
-    ("0 pass\n", 1,
-     "state 0 maximiser guarantees at least 0.200000000000000 and no more than 0.200000000000000 audited False\n"),
-    ("(1,false):pass\n", 1,
-     "state 0 maximiser guarantees at least 0.200000000000000 and no more than 0.200000000000000 audited False\n"),
-    ("1:left\n", 0,
-     "state 0 minimiser guarantees at most 0.650000000000000 and no less than 0.650000000000000 audited True\n"),
-    ('[{"s": 0, "c": [{"index": 0, "prob": 1}]}]', 1,
-     "state 0 maximiser guarantees at least 0.200000000000000 and no more than 0.200000000000000 audited False\n"),
+    ("0:throw\n", 0, MOST.format("0.650000000000000", "True")),
+    ("0=1\n", 0, MOST.format("0.650000000000000", "True")),
+    ("0 pass\n", 1, MOST.format("0.200000000000000", "False")),
+    ("(1,false):pass\n", 1, MOST.format("0.200000000000000", "False")),
+    ("1:left\n", 0, LEAST.format("0.650000000000000", "True")),
+    ('[{"s": 0, "c": [{"index": 0, "prob": 1}]}]', 1, MOST.format("0.200000000000000", "False")),
 ]
 
 # a strategy that is refused, and why
@@ -310,34 +308,20 @@ class Guarantees(InFolder):
         """One player at state 0, where it leaves for the goal or for state 1, in which it would have a choice."""
         tra = self.write("m.tra", "4 5 6\n0 0 2 1\n0 1 1 1\n1 0 2 0.5\n1 0 3 0.5\n1 1 3 1\n2 0 2 1\n")
         lab = self.write("m.lab", '0="init" 1="goal"\n0: 0\n2: 1\n')
-        for text, said in (
-            (
-                "0:0\n",
-                "state 0 maximiser guarantees at least 1.000000000000000 and no more than 1.000000000000000 audited "
-                "Bracket\n",
-            ),
-            (
-                "0:1\n1:0\n",
-                "state 0 maximiser guarantees at least 0.500000000000000 and no more than 0.500000000000000 audited "
-                "Bracket\n",
-            ),
-        ):
-            self.assertEqual(
-                call_tool("guarantee", tra, lab, 'Pmax=? [ F "goal" ]', "--strategy", self.write("mine", text)),
-                (0, said, ""),
-            )
-        name = self.write("mine", "0:1\n")
-        errors = call_tool("guarantee", tra, lab, 'Pmax=? [ F "goal" ]', "--strategy", name)[2]
+        words, name = [tra, lab, 'Pmax=? [ F "goal" ]', "--strategy"], self.folder / "mine"
+        for text, value in (("0:0\n", "1.000000000000000"), ("0:1\n1:0\n", "0.500000000000000")):
+            done = call_tool("guarantee", *words, self.write("mine", text))
+            self.assertEqual(done, (0, MOST.format(value, "Bracket"), ""))
+        errors = call_tool("guarantee", *words, self.write("mine", "0:1\n"))[2]
         self.assertEqual(errors, f"guarantee: {name}: state 1 is reached, has 2 choices, and is not named\n")
 
     def test_always(self):
         """Of G the side that wants it is the maximiser; the goals of the dual are where it fails."""
         tra = self.write("m.tra", "2 3 4\n0 0 0 1\n0 1 0 0.5\n0 1 1 0.5\n1 0 1 1\n")
         lab = self.write("m.lab", '0="init" 1="bad"\n0: 0\n1: 1\n')
-        said = "state 0 maximiser guarantees at least {0} and no more than {0} audited Bracket\n"
         for text, value in (("0:0\n", "1.000000000000000"), ("0:1\n", "0.000000000000000")):
             words = [tra, lab, 'Pmax=? [ G !"bad" ]', "--strategy", self.write("mine", text)]
-            self.assertEqual(call_tool("guarantee", *words), (0, said.format(value), ""))
+            self.assertEqual(call_tool("guarantee", *words), (0, MOST.format(value, "Bracket"), ""))
 
     def test_refusals(self):
         for text, cause in NO_STRATEGY:
