@@ -1,6 +1,7 @@
 """The gallery's answers as a printed table, as stored lines, and as the page of answers."""
 
 import os
+import re
 import string
 import textwrap
 
@@ -52,6 +53,22 @@ def write_lines(path, keys, lines):
 def write_markdown(path, size, answers, models):
     """Writes a section for each model of a size; a model has its name, what it is known as and how large it is."""
     write_between(path, size, "".join(section(*model, answers) for model in models))
+
+
+def write_contents(path):
+    """Writes the table of contents of the page of answers."""
+    names = re.findall("(?m)^### (.*)$", path.read_text(encoding="utf-8"))
+    write_between(path, "contents", contents(names))
+
+
+def contents(names):
+    """A line for each family of these models, with links to their sections."""
+    families = {}
+    for name in names:
+        families.setdefault(name.split("-")[0], []).append(f"[{name}](#{name.replace('.', '')})")
+    lines = (f"- {family}: {', '.join(links)}" for family, links in families.items())
+    wrapped = (textwrap.fill(line, COLUMNS, subsequent_indent="  ", break_on_hyphens=False) for line in lines)
+    return "".join(f"{line}\n" for line in wrapped)
 
 
 def write_between(path, mark, text):

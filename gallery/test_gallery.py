@@ -1,9 +1,10 @@
-"""Tests of the gallery's own parts: python3 -m unittest discover gallery"""
+"""Tests of the gallery's own parts: python3 -m unittest gallery/test_gallery.py"""
 
 import contextlib
 import io
 import os
 import random
+import re
 import tempfile
 import unittest
 from fractions import Fraction
@@ -18,7 +19,7 @@ from gallery.families import investor, known_as, microgrid, same_or_size, teams,
 from gallery.picture import BOTTOM, LEFT, RIGHT, Picture, linear, logarithmic
 from gallery.solved import Solved, faults_of_line, is_taken, solved
 from gallery.solved import spelt as spelt_width
-from gallery.table import joined, read_lines, write_lines, write_markdown
+from gallery.table import contents, joined, read_lines, write_lines, write_markdown
 from toolbox.drawn import drawn_game, drawn_question, drawn_values, fault_of, stays_open
 from toolbox.exact import exact_values, plain_value_iteration
 from toolbox.model import CLOSED, Model, ask, spelt, sure
@@ -430,6 +431,36 @@ class Page(InFolder):
             ((), ""),
         ):
             self.assertEqual(joined(bracket), text)
+
+    def test_contents(self):
+        """The page of answers has a link to each model, and its lines are no longer than others."""
+        names = ["die-6", "die-8", "chain-8-0.7", *(f"teams-{number}-1-1" for number in range(5))]
+        self.assertEqual(
+            contents(names),
+            "- die: [die-6](#die-6), [die-8](#die-8)\n- chain: [chain-8-0.7](#chain-8-07)\n"
+            "- teams: [teams-0-1-1](#teams-0-1-1), [teams-1-1-1](#teams-1-1-1), [teams-2-1-1](#teams-2-1-1),\n"
+            "  [teams-3-1-1](#teams-3-1-1), [teams-4-1-1](#teams-4-1-1)\n",
+        )
+        page = (Path(__file__).resolve().parent / "ANSWERS.md").read_text(encoding="utf-8")
+        named = [name for size in SIZES for name, _, _ in instances(size)]
+        self.assertIn(f"\n<!-- contents -->\n{contents(named)}<!-- end of contents -->\n", page)
+
+    def test_which_property_is_which_formula(self):
+        """Each formula of the table is asked about the family, which names the property; no property stands twice."""
+        page = (Path(__file__).resolve().parent / "README.md").read_text(encoding="utf-8")
+        rows = re.findall(r"(?m)^\| (`[\w-]+`: `\w+`) \| (\w+) \| `(.*)` \|$", page)
+        self.assertEqual((len(rows), len({row[:2] for row in rows})), (15, 15))
+        known = {}
+        for size in SIZES:
+            for _, module, sizes in instances(size):
+                name = known_as(module, sizes).name
+                for question in module.questions(*sizes):
+                    known.setdefault((module.__name__.rpartition(".")[2], question.formula()), []).append(name)
+        for there, family, formula in rows:
+            with self.subTest(there=there, family=family):
+                model, asked = there.split(": ")
+                names = known[family, formula]
+                self.assertTrue(any(name.startswith(model) and asked in name.split(": ")[1] for name in names), names)
 
     def test_the_page_has_what_is_stored(self):
         """Each model has its section, in their order, and each stored line its formula there,

@@ -124,8 +124,16 @@ class Argument:
         if (report.status, report.output) != (second.status, second.output.replace(" reaudited ", " audited ")):
             raise Refusal(shown, None, f"the second audit says otherwise: {programs.first_line(second)}")
         asker = "check" if certificate is None else "audit"
-        true = true_states(formula, report) if number < len(self.formulas) else None
+        true = self.true_states(formula, verdicts_of(report)) if number < len(self.formulas) else None
         return Part(number, formula, steps, text, certificate, asker, report, second, true)
+
+    def true_states(self, formula, verdicts):
+        """The states at which a formula holds, by the verdict at each state; refused where one of them is undecided."""
+        undecided = [state for state in range(self.states) if verdicts.get(state) not in ("True", "False")]
+        if undecided:
+            more = f", and at {len(undecided) - 1} more" if undecided[1:] else ""
+            raise Ending(UNDECIDED, f"the formula inside, {formula}, is undecided at state {undecided[0]}{more}")
+        return {state for state, verdict in verdicts.items() if verdict == "True"}
 
     def marks(self, number, formula):
         """The labels of the label file of a part, of which each state has `init` but in the last part."""
@@ -146,16 +154,6 @@ class Argument:
 def second_of(question, *certificate):
     """The run of the second audit."""
     return programs.run(sys.executable, REAUDIT, *question[:3], *certificate, *question[3:])
-
-
-def true_states(formula, report):
-    """The states at which a formula holds, by lines about every state; refused where one of them is undecided."""
-    verdicts = verdicts_of(report)
-    undecided = [state for state, verdict in verdicts.items() if verdict not in ("True", "False")]
-    if undecided:
-        more = f", and at {len(undecided) - 1} more" if undecided[1:] else ""
-        raise Ending(UNDECIDED, f"the formula inside {formula} is undecided at state {undecided[0]}{more}")
-    return {state for state, verdict in verdicts.items() if verdict == "True"}
 
 
 def verdicts_of(report):
