@@ -11,7 +11,7 @@ from dataclasses import dataclass, field
 from fractions import Fraction
 from pathlib import Path
 
-from toolbox.programs import TRUTHS, asked, bracket_of, failures, verdict_of
+from toolbox.programs import TRUTHS, asked, bracket_of, failures, verdict_of, width_of
 
 
 @dataclass
@@ -22,17 +22,13 @@ class Solved:
     seconds: float
     faults: list = field(default_factory=list)
 
-    def width(self):
-        """How far the bounds lie apart, or none where there are none."""
-        bracket = bracket_of(self.line)
-        return Fraction(bracket[1]) - Fraction(bracket[0]) if bracket else None
-
     def summary(self):
         """The width as a float, and the verdict where there is a threshold."""
-        if self.width() is None:
+        width = width_of(self.line)
+        if width is None:
             return "none"
         verdict = verdict_of(self.line)
-        return spelt(self.width()) + (f", {verdict}" if verdict != "Bracket" else "")
+        return spelt(width) + (f", {verdict}" if verdict != "Bracket" else "")
 
 
 def spelt(width):

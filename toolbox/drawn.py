@@ -32,7 +32,9 @@ def drawn_game(draw):
     """
     count = draw.randint(LEAST_STATES, MOST_STATES)
     while True:
-        rule = {name: drawn_choices(draw, count) for name in range(count)}
+        rule = {}
+        for name in range(count):
+            rule[name] = [drawn_choice(draw, count) for _ in range(draw.choice(COUNTS_OF_CHOICES))]
         goal, end, unsafe = count - 1, count - 2, draw.randrange(1, count)
         rule[goal] = rule[end] = []
         owners = [draw.choice(PLAYERS) for _ in range(count)]
@@ -40,10 +42,6 @@ def drawn_game(draw):
         model = Model(0, rule.get, labels, PLAYERS, owners.__getitem__)
         if len(model) == count:
             return model
-
-
-def drawn_choices(draw, count):
-    return [drawn_choice(draw, count) for _ in range(draw.choice(COUNTS_OF_CHOICES))]
 
 
 def drawn_choice(draw, count):

@@ -15,7 +15,7 @@ from fractions import Fraction
 from functools import lru_cache
 
 from toolbox.explicit import ONLY_PLAYER
-from toolbox.formulas import Formula
+from toolbox.formulas import Formula, met
 
 ROUNDS_OF_A_FIRST_GUESS = 2000
 
@@ -59,10 +59,7 @@ def states_of(model, tree):
     everywhere = frozenset(range(len(model)))
     if tree[0] in ("label", "true", "false"):
         return everywhere if tree[0] == "true" else frozenset(model.labels[tree[1]] if tree[1:] else ())
-    parts = [states_of(model, part) for part in tree[1:]]
-    if tree[0] in "&|":
-        return parts[0] & parts[1] if tree[0] == "&" else parts[0] | parts[1]
-    return everywhere - parts[0] if tree[0] == "!" else everywhere - parts[0] | parts[1]
+    return met(tree[0], everywhere, [states_of(model, part) for part in tree[1:]])
 
 
 @lru_cache(maxsize=4)

@@ -199,6 +199,13 @@ def holds(tree, labels, states):
     return bytearray(map(operator.and_ if kind == "&" else operator.or_, *parts))
 
 
+def met(sign, everywhere, parts):
+    """The states that meet a connective of sets of states."""
+    if sign in "&|":
+        return parts[0] & parts[1] if sign == "&" else parts[0] | parts[1]
+    return everywhere - parts[0] if sign == "!" else everywhere - parts[0] | parts[1]
+
+
 def labels_named(labels, label):
     try:
         return labels[label.encode("ascii")]

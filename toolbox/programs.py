@@ -116,6 +116,12 @@ def bracket_of(line):
     return (words[3], words[5]) if words[:1] == ["state"] else ()
 
 
+def width_of(line):
+    """How far the bounds of a line of a report lie apart, or none where it has none."""
+    bracket = bracket_of(line)
+    return Fraction(bracket[1]) - Fraction(bracket[0]) if bracket else None
+
+
 def verdict_of(line):
     """The verdict of a line of a report, or the whole line where it has none."""
     return line.split()[-1] if bracket_of(line) else line

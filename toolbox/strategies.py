@@ -105,11 +105,13 @@ class ChoiceNames:
             return numbers[0]
         if not (word.isascii() and word.isdigit()):
             raise ValueError(f"state {state} has no choice of the name {word}")
-        if int(word) >= self.count(state):
-            raise ValueError(
-                f"state {state} has {self.count(state)} choices, counted from 0, and no choice {int(word)}"
-            )
-        return int(word)
+        return self.checked(state, int(word))
+
+    def checked(self, state, number):
+        """A number of a choice of a state; ValueError says the fault."""
+        if number >= self.count(state):
+            raise ValueError(f"state {state} has {self.count(state)} choices, counted from 0, and no choice {number}")
+        return number
 
     def word_of(self, state, number):
         """What names a choice: its action, where it is the only one of this name at its state, else its number."""
@@ -150,10 +152,10 @@ def total_choices(moves, members):
 def check_choices(names, moves, where):
     """Refuses a choice that its state does not have; `where` gives the file and the line of a state."""
     for state, move in enumerate(moves):
-        if move is not None and move >= names.count(state):
-            raise Refusal(
-                *where(state), f"state {state} has {names.count(state)} choices, counted from 0, and no choice {move}"
-            )
+        try:
+            names.checked(state, move or 0)
+        except ValueError as fault:
+            raise Refusal(*where(state), str(fault)) from None
 
 
 def write_induced(out, words, chosen):

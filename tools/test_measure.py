@@ -64,7 +64,7 @@ class MadeUp(InFolder):
 
     def test_a_run_that_takes_too_long_is_given_up(self):
         run = measure.run_once(["sleep", "20"], 0.1, self.folder / "out")
-        self.assertEqual((run.status, run.is_answered(), run.width()), (None, False, None))
+        self.assertEqual((run.status, run.is_answered(), run.line), (None, False, ""))
         row = {**dict.fromkeys(measure.FIELDS["runs"], ""), "model": "m", "command": "check"}
         self.assertEqual(measure.run_cells(row), ["m", "`check`", "", "given up", "", ""])
 

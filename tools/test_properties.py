@@ -226,22 +226,12 @@ class Files(InFolder):
 
     def test_the_sample(self):
         """Names, comments, constants and variables; the rewards are refused by line, and the rest is answered."""
-        words = [*(SAMPLES / f"named_game.{ending}" for ending in ("tra", "props", "sta"))]
-        status, output, errors = call_tool(
-            "properties",
-            words[0],
-            EXAMPLES / "two_players.lab",
-            words[1],
-            "--own",
-            EXAMPLES / "two_players.own",
-            "--sta",
-            words[2],
-            "--const",
-            "K=1",
-            "--json",
-        )
+        tra, props, sta = (SAMPLES / f"named_game.{ending}" for ending in ("tra", "props", "sta"))
+        lab, own = (EXAMPLES / f"two_players.{ending}" for ending in ("lab", "own"))
+        words = [tra, lab, props, "--own", own, "--sta", sta, "--const", "K=1", "--json"]
+        status, output, errors = call_tool("properties", *words)
         made = json.loads(output)
-        self.assertEqual((status, errors), (4, f"properties: {words[1]}: line 7: rewards (R): there is none here\n"))
+        self.assertEqual((status, errors), (4, f"properties: {props}: line 7: rewards (R): there is none here\n"))
         self.assertEqual([one["line"] for one in made], [4, 5, 6, 7])
         self.assertEqual([one["name"] for one in made], ["reach", None, "soon", None])
         self.assertEqual([one["states"][0]["lower"] for one in made[:3]], ["0.650000000000000"] * 3)

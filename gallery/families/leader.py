@@ -82,6 +82,5 @@ def questions(processes, numbers):
 
 def known_as(processes, numbers):
     name = f"`leader_sync` {processes}-{numbers}: `elected`"
-    if (processes, numbers) in COUNTS:
-        return Known(name, *COUNTS[processes, numbers])
-    return Known(name, kind=ENCODING)
+    counts = COUNTS.get((processes, numbers))
+    return Known(name, *counts) if counts else Known(name, kind=ENCODING)

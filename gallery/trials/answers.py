@@ -12,7 +12,7 @@ from rounds import bracket, decimal
 from texts import Refusal, read_formula
 from toolbox.exact import Plain
 from toolbox.explicit import ONLY_PLAYER
-from toolbox.formulas import TRUE, Formula, head_of, nodes_of
+from toolbox.formulas import TRUE, Formula, head_of, met, nodes_of
 from whole import UNIT, Asked, down, stepped, up
 
 STATUSES = {"True": 0, "Bracket": 0, "False": 1, "Undecided": 2}
@@ -125,17 +125,9 @@ def held(files, tree, rounds):
         states = everywhere if tree == TRUE else frozenset(files.labels.get(tree[-1], ()))
         return (states, states), 0
     sets, counts = zip(*(held(files, part, rounds) for part in tree[1:]))
-    return joined(tree[0], everywhere, sets), sum(counts)
-
-
-def joined(sign, everywhere, sets):
-    (sure, possible), (more_sure, more_possible) = sets[0], sets[-1]
-    if sign == "&":
-        return sure & more_sure, possible & more_possible
-    if sign == "|":
-        return sure | more_sure, possible | more_possible
-    fails = everywhere - possible, everywhere - sure
-    return fails if sign == "!" else (fails[0] | more_sure, fails[1] | more_possible)
+    if tree[0] in ("!", "=>"):
+        sets = (tuple(reversed(sets[0])), *sets[1:])
+    return tuple(met(tree[0], everywhere, parts) for parts in zip(*sets)), sum(counts)
 
 
 def checked(files, text, rounds=10_000, plan=False, traps=False):

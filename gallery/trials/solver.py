@@ -1,11 +1,9 @@
 """`solve` over games in which play can be kept from an end: bounds, verdicts and certificates at every state."""
 
-from fractions import Fraction
-
 from core import Found, faults_of_report
 from gallery.solved import faults_of_line, faults_of_plan
 from toolbox.drawn import drawn_game, drawn_question, stays_open
-from toolbox.programs import UNIT, asked, bracket_of, failures
+from toolbox.programs import UNIT, asked, failures, width_of
 
 COUNT, QUESTIONS, MANY = 60, 4, 10
 
@@ -25,8 +23,7 @@ def trial(draw, room):
 def judged(found, room, model, question, values, *options):
     """The lines of `solve`, which are compared with the values, and their widths are counted."""
     lines = compared(found, room, model, question, values, *options)
-    for lower, upper in filter(None, map(bracket_of, lines)):
-        width = (Fraction(upper) - Fraction(lower)) / UNIT
+    for width in (width / UNIT for width in map(width_of, lines) if width is not None):
         found.counts["bounds"] += 1
         found.counts["with no unit between"] += width == 0
         found.counts[f"with more than {MANY}"] += width > MANY
