@@ -108,13 +108,9 @@ def judge_published(answer):
 def judge_inside(answer):
     """The line before the report counts the formulas inside, and leaves each undecided at no more than all states."""
     count, words = len(answer.question.inside()), answer.inside.split()
-    is_counted = words[:3] == ["inner", str(count), "undecided"] and is_at_most(words[3:], count * answer.states)
-    if count and not is_counted:
+    is_counted = len(words) == 4 and words[:3] == ["inner", str(count), "undecided"] and words[3].isdigit()
+    if count and not (is_counted and int(words[3]) <= count * answer.states):
         answer.faults.append(f"the line before the report does not speak of {count} formulas inside")
-
-
-def is_at_most(words, most):
-    return len(words) == 1 and words[0].isdigit() and int(words[0]) <= most
 
 
 def judge_bracket(answer, lines):

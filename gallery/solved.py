@@ -40,11 +40,6 @@ def is_taken(question):
     return question.command == "check" and question.horizon() is None and not question.inside()
 
 
-def title(question):
-    """The words of `solve`, without the files."""
-    return f"solve '{question.formula()}'"
-
-
 def solved(model, path, question, value):
     """What `solve` says of the first state, whose value this is."""
     begun = time.monotonic()

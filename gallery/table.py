@@ -5,7 +5,6 @@ import re
 import string
 import textwrap
 
-from gallery.solved import title
 from toolbox.endings import Refusal
 
 MOST_OF_A_DENOMINATOR = 10**9
@@ -35,7 +34,7 @@ def key_of(name, question):
 
 
 def solved_key_of(name, question):
-    return f"{name}\t{title(question)}"
+    return f"{name}\tsolve '{question.formula()}'"
 
 
 def read_lines(path):

@@ -5,7 +5,6 @@ import io
 import os
 import random
 import re
-import tempfile
 import unittest
 from fractions import Fraction
 from pathlib import Path
@@ -193,7 +192,7 @@ class Games(unittest.TestCase):
         self.assertEqual(self.value(investor.model(2, 2, 2), "one_high", "i1"), Fraction(1, 4))
 
 
-class Pictures(unittest.TestCase):
+class Pictures(InFolder):
     def test_axes(self):
         axis = logarithmic("s", -2, 2)
         self.assertEqual([axis.share(value) for value in (0.001, 0.01, 1, 100, 1000)], [0, 0, 0.5, 1, 1])
@@ -202,13 +201,12 @@ class Pictures(unittest.TestCase):
 
     def drawn(self, draw, name, **rows):
         """The words of a picture that is drawn of these rows, and how many curves and signs it has, as tags of SVG."""
-        with tempfile.TemporaryDirectory() as room:
-            for field, text in rows.items():
-                (Path(room) / field).write_text(text, encoding="ascii")
-            places = {"FOLDER": Path(room), "TIMES": Path(room) / "times", "WIDTHS": Path(room) / "widths"}
-            with mock.patch.multiple(pictures, **places), contextlib.redirect_stdout(io.StringIO()):
-                draw()
-            tree = ElementTree.parse(Path(room) / f"{name}.svg").getroot()
+        for field, text in rows.items():
+            self.write(field, text)
+        places = {"FOLDER": self.folder, "TIMES": self.folder / "times", "WIDTHS": self.folder / "widths"}
+        with mock.patch.multiple(pictures, **places), contextlib.redirect_stdout(io.StringIO()):
+            draw()
+        tree = ElementTree.parse(self.folder / f"{name}.svg").getroot()
         tags = [element.tag.rpartition("}")[2] for element in tree.iter()]
         return [element.text for element in tree.iter() if element.tag.endswith("text")], tags
 

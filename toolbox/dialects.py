@@ -11,10 +11,9 @@ from collections import namedtuple
 from fractions import Fraction
 from itertools import count
 
-from toolbox.formulas import OPPOSITES
+from toolbox.formulas import FAILS, OPPOSITES
 from toolbox.model import spelt
 
-FAILS = {">=": "<", ">": "<=", "<=": ">", "<": ">="}
 COMPARED = ("=", "!=", "<", "<=", ">", ">=")
 PATHS = ("F", "G", "X", "U", "W", "R")
 FILTERS = {"min", "max", "forall", "exists", "range", "state", "first", "print", "printall"}

@@ -14,6 +14,7 @@ from toolbox.endings import Refusal
 from toolbox.explicit import fraction_of
 
 OPPOSITES = {">=": "<=", "<=": ">=", ">": "<", "<": ">", "Pmax": "Pmin", "Pmin": "Pmax"}
+FAILS = {">=": "<", ">": "<=", "<=": ">", "<": ">="}
 COMPARED = {">=": operator.ge, "<=": operator.le, ">": operator.gt, "<": operator.lt}
 LEVELS = ("=>", "|", "&")
 TRUE = ("true",)
