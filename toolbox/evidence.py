@@ -96,13 +96,14 @@ class Argument:
         for number, part in enumerate(self.formulas, 1):
             self.parts.append(self.answered(number, part))
         if self.whole:
-            self.compare(verdicts_of(self.whole), verdicts_of(self.parts[-1].report))
+            self.compare()
 
-    def compare(self, whole, last):
-        """Refuses an argument that comes to another answer than the program does by itself."""
-        for state, verdict in whole.items():
-            if {verdict, last[state]} == {"True", "False"}:
-                raise Refusal("solve", None, f"at state {state} it says {verdict}, and the steps say {last[state]}")
+    def compare(self):
+        """Refuses an argument whose bounds on a value are apart from those that the program finds by itself."""
+        last = reported(self.parts[-1].report)
+        for state, (low, high, _) in reported(self.whole).items():
+            if low > last[state][1] or last[state][0] > high:
+                raise Refusal("solve", None, f"its bounds at state {state} are apart from those of the steps")
 
     def question(self, labels, formula):
         return [self.files["tra"], str(labels), formula, *self.own]
@@ -124,11 +125,12 @@ class Argument:
         if (report.status, report.output) != (second.status, second.output.replace(" reaudited ", " audited ")):
             raise Refusal(shown, None, f"the second audit says otherwise: {programs.first_line(second)}")
         asker = "check" if certificate is None else "audit"
-        true = self.true_states(formula, verdicts_of(report)) if number < len(self.formulas) else None
+        true = self.true_states(formula, report) if number < len(self.formulas) else None
         return Part(number, formula, steps, text, certificate, asker, report, second, true)
 
-    def true_states(self, formula, verdicts):
-        """The states at which a formula holds, by the verdict at each state; refused where one of them is undecided."""
+    def true_states(self, formula, report):
+        """The states at which a formula holds, by a line about each state; refused where one of them is undecided."""
+        verdicts = {state: verdict for state, (_, _, verdict) in reported(report).items()}
         undecided = [state for state in range(self.states) if verdicts.get(state) not in ("True", "False")]
         if undecided:
             more = f", and at {len(undecided) - 1} more" if undecided[1:] else ""
@@ -156,10 +158,10 @@ def second_of(question, *certificate):
     return programs.run(sys.executable, REAUDIT, *question[:3], *certificate, *question[3:])
 
 
-def verdicts_of(report):
-    """The verdict at each state that a report is about."""
-    found = filter(None, map(programs.REPORT.fullmatch, report.output.splitlines()))
-    return {int(line[1]): line[4] for line in found}
+def reported(run):
+    """The lower bound, the upper bound and the verdict at each state that a run reports; bounds have one width."""
+    found = filter(None, map(programs.REPORT.fullmatch, run.output.splitlines()))
+    return {int(line[1]): line.groups()[1:] for line in found}
 
 
 def certificate_text(name):

@@ -20,7 +20,7 @@ OWN = ["--own", GAME[2]]
 COIN = [str(MODELS / f"coin-2-2.{ending}") for ending in ("tra", "lab")]
 DIE = [str(MODELS / f"die-6.{ending}") for ending in ("tra", "lab")]
 RECOVERS = 'P>=1 [ G P>=1 [ F "finished" ] ]'
-FEW, MANY, MOST = 10, 1000, 3000
+FEW, MANY, MOST, DRAWN = 10, 1000, 3000, 20
 
 # a formula, and what it is taken apart into
 PARTS = [
@@ -58,6 +58,25 @@ class TakenApart(unittest.TestCase):
     def test_label_files(self):
         marks = {"init": bytearray(b"\1\1\1\0"), "a": bytearray(b"\0\0\1\0")}
         self.assertEqual(evidence.label_text(marks), '0="init" 1="a"\n0: 0\n1: 0\n2: 0 1\n')
+
+
+def drawn_formula(draw, depth, is_inside=False):
+    """A formula with so many others one in another at most, over the game of two players."""
+    coalition = draw.choice(("", "", "<<p1>> ", "<<p2>> ", "<<p1,p2>> ", "<<>> "))
+    threshold = f"P{draw.choice(('>=', '>', '<=', '<'))}{draw.choice(('0', '0.2', '1/3', '0.65', '0.9', '1'))}"
+    bound = threshold if is_inside or draw.random() < 0.7 else draw.choice(("Pmax=?", "Pmin=?"))
+    left, right = drawn_side(draw, depth), drawn_side(draw, depth)
+    steps = draw.choice(("", "", "<=0", "<=1", "<=3"))
+    path = draw.choice((f"F{steps} {right}", f"{left} U{steps} {right}", f"G {right}", f"X {right}"))
+    return f"{coalition}{bound} [ {path} ]"
+
+
+def drawn_side(draw, depth):
+    """A side of a path, which has a formula inside in most cases where it may have one."""
+    if depth and draw.random() < 0.7:
+        inside = drawn_formula(draw, depth - 1, True)
+        return draw.choice((inside, f"!{inside}", f'("goal" | {inside})', f'({inside} & !"init")'))
+    return draw.choice(('"goal"', '"init"', '!"goal"', "true", '("init" | "goal")'))
 
 
 @needs_program
@@ -149,6 +168,21 @@ class Evidence(InFolder):
             with self.subTest(formula=formula):
                 self.assertEqual(call_tool("dossier", *GAME[:2], formula), (4, "", f"dossier: {said}\n"))
 
+    def test_drawn_formulas(self):
+        """Steps come to what the program says by itself, or stop where a state stays undecided."""
+        draw, statuses = random.Random(3), []
+        for _ in range(DRAWN):
+            words = [*GAME[:2], drawn_formula(draw, 2), *OWN]
+            with self.subTest(formula=words[2]):
+                status, text, errors = call_tool("dossier", *words)
+                self.assertIn(status, (0, 2), errors)
+                self.assertEqual(bool(text), not status)
+                statuses.append(status)
+                if text:
+                    verified = call_tool("dossier", "--verify", self.write("dossier", text))
+                    self.assertEqual(verified[::2], (0, ""))
+        self.assertGreater(statuses.count(0), DRAWN // 2)
+
     def test_an_argument_that_is_wrong(self):
         """What the program says by itself, and what the second audit says, has to agree with the steps."""
         wrong = programs.Ended(1, "inner 1 undecided 0\nstate 0 lower 0.0 upper 0.0 solved False\n", "")
@@ -157,7 +191,8 @@ class Evidence(InFolder):
             programs, "answered", lambda command, words: wrong if command == "solve" else answered(command, words)
         ):
             status, _, errors = call_tool("dossier", *COIN, RECOVERS)
-        self.assertEqual((status, errors), (4, "dossier: solve: at state 0 it says False, and the steps say True\n"))
+        said = "dossier: solve: its bounds at state 0 are apart from those of the steps\n"
+        self.assertEqual((status, errors), (4, said))
         with mock.patch.object(evidence, "second_of", lambda *_: programs.Ended(0, "state 0 other\n", "")):
             status, _, errors = call_tool("dossier", *COIN, RECOVERS)
         self.assertEqual(status, 4)
