@@ -21,12 +21,11 @@ from gallery.solved import spelt as spelt_width
 from gallery.table import contents, joined, read_lines, write_lines, write_markdown
 from toolbox.drawn import drawn_game, drawn_question, drawn_values, fault_of, stays_open
 from toolbox.exact import exact_values, plain_value_iteration
-from toolbox.model import CLOSED, Model, ask, spelt, sure
+from toolbox.model import CLOSED, HALF, Model, ask, spelt, sure
 from toolbox.programs import bracket_of
 from toolbox.testing import InFolder
 
 MOST_STATES, MOST_STEPS = 130, 300
-HALF = Fraction(1, 2)
 
 
 def coin_loop():

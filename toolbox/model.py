@@ -17,7 +17,8 @@ from toolbox.formulas import TRUE, Formula, Spelt
 MOST_DIGITS = 30
 CLOSED = "closed form"
 COMPUTED = "computed in fractions"
-BACKWARD = COMPUTED + ", backward"
+BACKWARD, BY_RULE = COMPUTED + ", backward", COMPUTED + ", by the rule"
+HALF = Fraction(1, 2)
 
 
 class Model:

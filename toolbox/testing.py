@@ -74,6 +74,12 @@ class InFolder(unittest.TestCase):
         """The texts of the files of the folder, by name."""
         return {path.name: path.read_text(encoding="ascii") for path in self.folder.iterdir()}
 
+    def answered(self, line, *words):
+        """Requires that the program answers a question with a line that begins so."""
+        status, output, errors = run(program(), "check", *words)
+        self.assertEqual((status, errors), (0, ""), output)
+        self.assertTrue(output.startswith(line), output)
+
     def refused(self, line, cause, ask, *words):
         """Requires that a call is refused at this line with this cause."""
         with self.assertRaises(Refusal) as caught:

@@ -2,7 +2,7 @@
 
 import gzip
 
-from toolbox.testing import SAMPLES, InFolder, call_tool, needs_program, program, run, run_tool
+from toolbox.testing import SAMPLES, InFolder, call_tool, needs_program, run_tool
 
 DIE = {
     "out.tra": "7 11\n0 1 0.5\n0 2 0.5\n1 0 0.5\n1 3 1/2\n2 4 0.25\n2 5 2.5e-1\n2 6 0.5\n3 3 1\n4 4 1\n5 5 1\n6 6 1\n",
@@ -190,9 +190,7 @@ class Documented(InFolder):
                 out = self.folder / name
                 self.assertEqual(run_tool("from_drn", SAMPLES / f"documented_{name}.drn", out)[:2], (0, ""))
                 owners = ["--own", f"{out}.own"] if name in ("game", "nobody") else []
-                status, output, errors = run(program(), "check", f"{out}.tra", f"{out}.lab", formula, *owners)
-                self.assertEqual((status, errors), (0, ""), output)
-                self.assertTrue(output.startswith(line), output)
+                self.answered(line, f"{out}.tra", f"{out}.lab", formula, *owners)
 
 
 class Refused(InFolder):

@@ -1,6 +1,6 @@
 """Owner files from what PRISM and PRISM-games export."""
 
-from toolbox.testing import SAMPLES, InFolder, call_tool, needs_program, program, run
+from toolbox.testing import SAMPLES, InFolder, call_tool, needs_program
 
 STATES = SAMPLES / "documented_states.sta"
 PLAYERS = SAMPLES / "documented_players.pla"
@@ -158,9 +158,5 @@ class OwnerFiles(InFolder):
     def test_the_program_reads_them(self):
         self.convert(GAME)
         labels = self.write("out.lab", '0="init" 1="goal"\n0: 0\n2: 1\n')
-        files = self.folder / "out.tra", labels
-        status, output, _ = run(
-            program(), "check", *files, '<<p1>> Pmax=? [ F "goal" ]', "--own", self.folder / "out.own"
-        )
-        self.assertEqual(status, 0)
-        self.assertTrue(output.startswith("state 0 lower 0.500000000000000 upper 0.500000000000000"), output)
+        words = [self.folder / "out.tra", labels, '<<p1>> Pmax=? [ F "goal" ]', "--own", self.folder / "out.own"]
+        self.answered("state 0 lower 0.500000000000000 upper 0.500000000000000", *words)

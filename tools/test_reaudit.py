@@ -4,7 +4,6 @@ and of models and formulas that were damaged; and of steps what `stogame check` 
 import random
 import re
 import sys
-import unittest
 from functools import lru_cache
 from unittest import mock
 

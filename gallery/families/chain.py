@@ -20,12 +20,10 @@ LENGTH, or there is none.
 from fractions import Fraction
 
 from gallery.families import ENCODING, Known
-from toolbox.model import CLOSED, COMPUTED, Model, ask, sure
+from toolbox.model import BY_RULE, CLOSED, HALF, Model, ask, sure
 
-HALF = Fraction(1, 2)
 SIZES = {"small": [(3,), (10,), (20,), (8, "0.7"), (20, "0.7")], "large": [(17,)]}
 MANY_ROUNDS = ("--rounds", "1000000")
-RECURSION = COMPUTED + ", by the rule"
 STOPS = {3: 92, 10: 8846, 20: 20}
 
 
@@ -62,8 +60,8 @@ def questions(length, chance=HALF):
     yield sure("P>=1", "end", value=1, source=CLOSED)
     if length in STOPS:
         stopped = reached_within(length, STOPS[length])
-        yield ask("Pmax=?", "goal", stopped, RECURSION, steps=STOPS[length])
-        yield ask("P>=0.499", "goal", stopped, RECURSION, steps=STOPS[length])
+        yield ask("Pmax=?", "goal", stopped, BY_RULE, steps=STOPS[length])
+        yield ask("P>=0.499", "goal", stopped, BY_RULE, steps=STOPS[length])
 
 
 def questions_of_chance(length, chance):

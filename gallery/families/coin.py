@@ -20,9 +20,8 @@ these are the fractions of one scheduler, found by value iteration, whose values
 from fractions import Fraction
 
 from gallery.families import Known, changed
-from toolbox.model import COMPUTED, Model, ask, sure
+from toolbox.model import COMPUTED, HALF, Model, ask, sure
 
-HALF = Fraction(1, 2)
 SOURCE = "Aspnes and Herlihy 1990"
 SIZES = {"small": [(2, 2), (2, 4)], "large": [(2, 16), (4, 2), (4, 4)]}
 COUNTS = {

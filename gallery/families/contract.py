@@ -22,9 +22,8 @@ A's release j is step 2n + 2j - 1, and B is first at it with 1 / 2^j * 1 / 2^(j-
 from fractions import Fraction
 
 from gallery.families import OTHER, Known
-from toolbox.model import CLOSED, Model, ask
+from toolbox.model import CLOSED, HALF, Model, ask
 
-HALF = Fraction(1, 2)
 SIZES = {"small": [(1,), (3,)], "large": [(6,)]}
 KNOWN = Known("`egl`", kind=OTHER)
 

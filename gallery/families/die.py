@@ -19,9 +19,8 @@ digits of 1 / FACES. The first toss of a die of 6 or 8 faces makes a face twice 
 from fractions import Fraction
 
 from gallery.families import Known
-from toolbox.model import CLOSED, Model, ask, sure
+from toolbox.model import CLOSED, HALF, Model, ask, sure
 
-HALF = Fraction(1, 2)
 SOURCE = "Knuth and Yao 1976"
 SIZES = {"small": [(6,), (8,), (11,)], "large": [(1021,)]}
 FEW = 11

@@ -21,9 +21,8 @@ from fractions import Fraction
 from itertools import product
 
 from gallery.families import changed, same_or_size
-from toolbox.model import CLOSED, Model, ask, sure
+from toolbox.model import CLOSED, HALF, Model, ask, sure
 
-HALF = Fraction(1, 2)
 SIZES = {"small": [(2, 1), (3, 2)], "large": [(5, 2)]}
 COUNTS = {(5, 2): (33790, 34813)}
 PUBLISHED = {(5, 2): ("0.515625", "0.484375")}

@@ -20,12 +20,11 @@ from fractions import Fraction
 from functools import lru_cache
 
 from gallery.families import OTHER, Known
-from toolbox.model import CLOSED, COMPUTED, Model, ask, sure
+from toolbox.model import BY_RULE, CLOSED, HALF, Model, ask, sure
 
 DELAY = 36
 SHORT, LONG = (76, 85 + DELAY), (159, 167 + DELAY)
-QUARTER, HALF = Fraction(1, 4), Fraction(1, 2)
-RECURSION = COMPUTED + ", by the rule"
+QUARTER = Fraction(1, 4)
 SIZES = {"small": [(0,), (200,), (300,), (400,), (600,), (800,), (1000,)], "large": [(20000,)]}
 
 
@@ -68,9 +67,9 @@ def questions(deadline):
         yield sure("Pmin=?", "elected", value=1, source=CLOSED)
         return
     least, greatest = elected(deadline, SHORT[1], LONG[1]), elected(deadline, SHORT[0], LONG[0])
-    yield ask("Pmin=?", "elected", least, RECURSION)
-    yield ask("Pmax=?", "elected", greatest, RECURSION)
-    yield ask("P>=5/8", "elected", least, RECURSION)
+    yield ask("Pmin=?", "elected", least, BY_RULE)
+    yield ask("Pmax=?", "elected", greatest, BY_RULE)
+    yield ask("P>=5/8", "elected", least, BY_RULE)
 
 
 def known_as(deadline):

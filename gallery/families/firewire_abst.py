@@ -22,11 +22,10 @@ from fractions import Fraction
 from functools import lru_cache
 
 from gallery.families import same_or_size
-from toolbox.model import CLOSED, COMPUTED, Model, ask, sure
+from toolbox.model import BY_RULE, CLOSED, HALF, Model, ask, sure
 
-HALF, QUARTER = Fraction(1, 2), Fraction(1, 4)
+QUARTER = Fraction(1, 4)
 SHORT, LONG = (76, 85), (159, 167)
-RECURSION = COMPUTED + ", by the rule"
 SIZES = {"small": [(3, 0), (36, 0)], "large": [(3, 200), (3, 400), (3, 600), (3, 800)]}
 COUNTS = {(3,): (611, 718), (36,): (776, 1411)}
 PUBLISHED = {(3, 200): "0.5", (3, 400): "0.78125", (3, 600): "0.931640625"}
@@ -84,8 +83,8 @@ def questions(delay, deadline):
         yield sure("Pmin=?", "elected", value=1, source=CLOSED)
         return
     least = elected(delay, deadline)
-    yield ask("Pmin=?", "elected", least, RECURSION, published=PUBLISHED.get((delay, deadline), ""))
-    yield ask(f"P>={least}", "elected", least, RECURSION)
+    yield ask("Pmin=?", "elected", least, BY_RULE, published=PUBLISHED.get((delay, deadline), ""))
+    yield ask(f"P>={least}", "elected", least, BY_RULE)
 
 
 def known_as(delay, deadline):

@@ -20,9 +20,8 @@ from fractions import Fraction
 from itertools import product
 
 from gallery.families import Known
-from toolbox.model import BACKWARD, CLOSED, Model, ask, sure
+from toolbox.model import BACKWARD, CLOSED, HALF, Model, ask, sure
 
-HALF = Fraction(1, 2)
 SOURCE = "Herman 1990"
 SIZES = {"small": [(3,), (5,), (7,)], "large": [(11,)]}
 FEW = 7

@@ -18,12 +18,10 @@ then, going round, somewhere one who drew left sits beside one who drew right, w
 hold their left forks, and one after the other fails and takes it again.
 """
 
-from fractions import Fraction
 
 from gallery.families import OTHER, Known, changed
-from toolbox.model import CLOSED, Model, ask, sure
+from toolbox.model import CLOSED, HALF, Model, ask, sure
 
-HALF = Fraction(1, 2)
 SIZES = {"small": [(3, 1), (4, 1), (3, 0)], "large": [(7, 1)]}
 LEFT, RIGHT = 0, 1
 

@@ -16,13 +16,11 @@ steps nothing may be lost, (1 - f) ^ FRAMES; within 3 more one thing, FRAMES f t
 (RETRIES + 1) steps only frames can have failed.
 """
 
-from fractions import Fraction
 
 from gallery.families import ENCODING, Known
+from gallery.families.brp import ANSWER_LOST, FRAME_LOST
 from toolbox.model import CLOSED, Model, ask
 
-FRAME_LOST = Fraction(2, 100)
-ANSWER_LOST = Fraction(1, 100)
 SIZES = {"small": [(16, 2), (64, 5)], "large": [(2000, 5)]}
 
 

@@ -17,12 +17,10 @@ stays stable where it is (closure), and it comes there (convergence). How far a 
 within so many steps is computed in fractions, backward.
 """
 
-from fractions import Fraction
 
 from gallery.families import Known
-from toolbox.model import BACKWARD, CLOSED, Model, ask, sure
+from toolbox.model import BACKWARD, CLOSED, HALF, Model, ask, sure
 
-HALF = Fraction(1, 2)
 SOURCE = "Israeli and Jalfon 1990"
 SIZES = {"small": [(3,), (7,), (9,)], "large": [(14,)]}
 FEW = 9

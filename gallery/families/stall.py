@@ -19,9 +19,9 @@ them; S is their sum after all m. One step leads to the play.
 
 from fractions import Fraction
 
-from toolbox.model import CLOSED, Model, ask
+from toolbox.model import CLOSED, HALF, Model, ask
 
-HALF, PAYS = Fraction(1, 2), Fraction(9, 10)
+PAYS = Fraction(9, 10)
 SIZES = {"small": [(1,), (8,), (40,)], "large": [(200,)]}
 FEW, MANY_ROUNDS = 40, ("--rounds", "1000000")
 FIRST_ROOM, SECOND_ROOM = "first room", "second room"
