@@ -213,9 +213,9 @@ class Model:
         """The exact weights of a choice, in the order of its edges, and their total."""
         return self.weights[choice]
 
-    def add_choice(self, successors, weights, total):
-        """Adds a choice of the state under way."""
-        self.weights.append((weights, total))
+    def add_choice(self, successors, weighted):
+        """Adds a choice of the state under way, with its weights and their total."""
+        self.weights.append(weighted)
         self.successor.extend(successors)
         self.edge_start.append(len(self.successor))
 
@@ -375,7 +375,7 @@ def model_of_sorted(rows):
             choice += 1
         stated += choice
         if choice == 0:
-            model.add_choice([state], [1], 1)
+            model.add_choice([state], ([1], 1))
         model.end_state()
     if edge < count:
         raise Refusal(rows.name, None, f"the lines of state {sources[edge]} are not together")
@@ -387,17 +387,17 @@ def model_of_sorted(rows):
 def add_distribution(model, rows, made, state, choice, edges):
     """Adds a choice of these lines; its weights are those that were made of the same probabilities before."""
     targets, places = rows.targets[edges], rows.shares[edges]
-    key = places.tobytes()
-    if key not in made:
+    weighted = made.get(places.tobytes())
+    if weighted is None:
         try:
-            made[key] = weights_of([rows.fractions[place] for place in places])
+            weighted = made[places.tobytes()] = weights_of([rows.fractions[place] for place in places])
         except ValueError as fault:
             raise Refusal(rows.name, None, f"state {state} choice {choice}: {fault}") from fault
-    weights, total = made[key]
-    if 0 in weights:
-        kept = [place for place, weight in enumerate(weights) if weight]
-        targets, weights = ([column[place] for place in kept] for column in (targets, weights))
-    model.add_choice(targets, weights, total)
+    if 0 in weighted[0]:
+        kept = [place for place, weight in enumerate(weighted[0]) if weight]
+        targets, weights = ([column[place] for place in kept] for column in (targets, weighted[0]))
+        weighted = weights, weighted[1]
+    model.add_choice(targets, weighted)
 
 
 # Labels and owners
