@@ -5,8 +5,8 @@
 
 writes `gallery/pictures/NAME.svg`. With `bounds`, or with no word, the first three: bounds are those of the program
 that `gallery/run` runs too, with `--rounds R` for rising R; plain value iteration is `exact.plain_value_iteration`,
-which stops where no value changes by 10^-6. With `times` the other two, out of the rows that `tools/measure` left in
-`gallery/pictures/times.csv` and `widths.csv`.
+which stops where no value changes by 10^-6. With `times` the other two, out of the rows of `docs/measured.tsv`, which
+`tools/measure` writes.
 
 Work is counted in updates of states, as many as there can be: a round of the program updates two tables in place, so
 twice as many as the model has states, and one of plain value iteration makes one table anew. A round of the program
@@ -30,7 +30,7 @@ from toolbox.exact import exact_values, plain_value_iteration
 from toolbox.model import ask
 
 FOLDER = Path(__file__).resolve().parent / "pictures"
-TIMES, WIDTHS = FOLDER / "times.csv", FOLDER / "widths.csv"
+MEASURED = FOLDER.parent.parent / "docs" / "measured.tsv"
 DIFFERENCE = 1e-6
 STEPS_OF_A_DECADE = (1, 1.25, 1.5, 2, 2.5, 3, 4, 5, 6, 8)
 TABLES = 2
@@ -114,17 +114,18 @@ def draw_stall():
     finish(picture, "stall")
 
 
-def rows_of(path):
-    if not path.exists():
-        raise Refusal(path, None, "it is not there: tools/measure writes it", UNREAD)
-    with open(path, newline="", encoding="ascii") as rows:
-        return list(csv.DictReader(rows))
+def rows_of(part):
+    """The rows of a part of what was measured."""
+    if not MEASURED.exists():
+        raise Refusal(MEASURED, None, "it is not there: tools/measure writes it", UNREAD)
+    with open(MEASURED, newline="", encoding="ascii") as rows:
+        return [row for row in csv.DictReader(rows, delimiter="\t") if row["part"] == part]
 
 
 def draw_times():
     """The time of `check` by the number of states, and that of `solve`, with a line that joins the two of one model.
     Models are named where there is room, slow ones first."""
-    rows = [row for row in rows_of(TIMES) if row["seconds"] and row["command"] in TIMED]
+    rows = [row for row in rows_of("runs") if row["seconds"] and row["command"] in TIMED]
     highest = max(float(row["seconds"]) for row in rows)
     seconds = logarithmic(SECONDS, -3, 3 if highest > 100 else 2, margin=MARGIN)
     states = logarithmic("number of states", 1, 6, margin=MARGIN)
@@ -160,7 +161,7 @@ def timed(row):
 
 def draw_widths():
     """The width of the bracket by time, of each command that was measured on this model."""
-    rows = rows_of(WIDTHS)
+    rows = rows_of("widths")
     picture = Picture(
         f"Width of the bracket by time: {rows[0]['model']}, {int(rows[0]['states']):,} states",
         logarithmic(SECONDS, -3, 3),

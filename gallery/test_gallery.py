@@ -5,6 +5,7 @@ import io
 import os
 import random
 import re
+import sys
 import unittest
 from fractions import Fraction
 from pathlib import Path
@@ -24,6 +25,10 @@ from toolbox.exact import exact_values, plain_value_iteration
 from toolbox.model import CLOSED, HALF, Model, ask, spelt, sure
 from toolbox.programs import bracket_of
 from toolbox.testing import InFolder
+
+sys.path.append(str(Path(__file__).resolve().parent / "trials"))
+
+import stiff
 
 MOST_STATES, MOST_STEPS = 130, 300
 
@@ -198,11 +203,9 @@ class Pictures(InFolder):
         self.assertEqual([words for _, words in axis.marks], ["10⁻²", "10⁻¹", "1", "10", "100"])
         self.assertEqual(linear("p", 0, 1, 4, 2).marks[1], (0.25, "0.25"))
 
-    def drawn(self, draw, name, **rows):
+    def drawn(self, draw, name, rows):
         """The words of a picture that is drawn of these rows, and how many curves and signs it has, as tags of SVG."""
-        for field, text in rows.items():
-            self.write(field, text)
-        places = {"FOLDER": self.folder, "TIMES": self.folder / "times", "WIDTHS": self.folder / "widths"}
+        places = {"FOLDER": self.folder, "MEASURED": self.write("measured.tsv", rows.replace(",", "\t"))}
         with mock.patch.multiple(pictures, **places), contextlib.redirect_stdout(io.StringIO()):
             draw()
         tree = ElementTree.parse(self.folder / f"{name}.svg").getroot()
@@ -210,8 +213,8 @@ class Pictures(InFolder):
         return [element.text for element in tree.iter() if element.tag.endswith("text")], tags
 
     def test_times(self):
-        rows = "group,model,kind,states,command,status,rounds,seconds,clock,megabytes,width\n" + "".join(
-            f"g,{model},{kind},{states},{command},0,,{seconds},1,1,0.0e+00\n"
+        rows = "part,group,model,kind,states,command,status,rounds,seconds,clock,megabytes,width\n" + "".join(
+            f"runs,g,{model},{kind},{states},{command},0,,{seconds},1,1,0.0e+00\n"
             for model, kind, states in (("a", "DTMC", 1000), ("b", "game", 2000), ("faster", "game", 2000))
             for command, seconds in (
                 ("check", "1" if model == "faster" else "3.5"),
@@ -219,7 +222,7 @@ class Pictures(InFolder):
                 ("solve", "0.2" if model == "a" else ""),
             )
         )
-        words, tags = self.drawn(pictures.draw_times, "times", times=rows)
+        words, tags = self.drawn(pictures.draw_times, "times", rows)
         for word in (
             "Time by number of states",
             "number of states",
@@ -235,15 +238,15 @@ class Pictures(InFolder):
         self.assertEqual((tags.count("circle"), tags.count("polygon")), (4, 3))
 
     def test_widths(self):
-        rows = "model,states,command,rounds,seconds,width\n" + "".join(
-            f"m,1234,{command},7,{seconds},{width}\n"
+        rows = "part,model,states,command,rounds,seconds,width\n" + "".join(
+            f"widths,m,1234,{command},7,{seconds},{width}\n"
             for command, seconds, width in (
                 ("check", 0.1, "1.0e+00"),
                 ("check", 2, "5.0e-03"),
                 ("solve", 0.0, "0.0e+00"),
             )
         )
-        words, tags = self.drawn(pictures.draw_widths, "widths", widths=rows)
+        words, tags = self.drawn(pictures.draw_widths, "widths", rows)
         title = "Width of the bracket by time: m, 1,234 states"
         for word in (title, "check", "solve", "check: 5.0 · 10⁻³", "solve: 0"):
             self.assertIn(word, words)
@@ -519,6 +522,12 @@ class Drawn(unittest.TestCase):
         causes = [fault and fault[1] for fault in faults]
         for cause in (None, "BadField", "LineCount", "StateOutOfRange", "DoubleState"):
             self.assertGreater(causes.count(cause), 1, cause)
+
+    def test_turns_of_stiff_models(self):
+        """Of a loop that is left by one half, of a state before it, and of one that is never left."""
+        half = Fraction(1, 2)
+        rows = [{0: half, None: half}, {0: Fraction(1)}, {2: Fraction(1)}]
+        self.assertEqual(stiff.expected_turns(rows), [2, 3, float("inf")])
 
 
 class Questions(unittest.TestCase):

@@ -4,7 +4,6 @@ import sys
 import unittest
 
 from gallery.families import die, wind
-from toolbox.endings import Refusal
 from toolbox.exact import exact_values
 from toolbox.model import ask
 from toolbox.testing import InFolder, load, needs_program, program, run_tool
@@ -41,7 +40,7 @@ class MadeUp(InFolder):
 
     def test_a_row_of_a_model(self):
         row = measure.model_row(self.files, self.program)
-        self.assertEqual(row, ["traps", "stall-1", "game", "5", "7", "9", "60.0 %"])
+        self.assertEqual(measure.model_cells(row), ["traps", "stall-1", "game", "5", "7", "9", "60.0 %"])
 
     def test_only_commands_that_there_are(self):
         names = [command.name for command in measure.offered(self.program)]
@@ -68,15 +67,14 @@ class MadeUp(InFolder):
         row = {**dict.fromkeys(measure.FIELDS["runs"], ""), "model": "m", "command": "check"}
         self.assertEqual(measure.run_cells(row), ["m", "`check`", "", "given up", "", ""])
 
-    def test_a_table_takes_its_place(self):
-        document = self.write("MEASURED.md", "a\n<!-- measured: runs -->\nold\n<!-- end of measured: runs -->\nb\n")
-        measure.DOCUMENT, kept = document, measure.DOCUMENT
-        self.addCleanup(setattr, measure, "DOCUMENT", kept)
-        measure.store("| new |\n", "runs")
-        text = "a\n<!-- measured: runs -->\n| new |\n<!-- end of measured: runs -->\nb\n"
-        self.assertEqual(document.read_text(encoding="ascii"), text)
-        with self.assertRaises(Refusal):
-            measure.store("", "widths")
+    def test_rows_take_their_place(self):
+        heads = "\t".join(measure.COLUMNS)
+        blank = "\t" * (len(measure.COLUMNS) - 3)
+        text = f"{heads}\nmodels\tg\ta{blank}\nruns\tg\told{blank}\nwidths\t\tc{blank}\n"
+        kept, measure.STORED = measure.STORED, self.write("measured.tsv", text)
+        self.addCleanup(setattr, measure, "STORED", kept)
+        measure.store("runs", [{"group": "g", "model": "new"}])
+        self.assertEqual(measure.STORED.read_text(encoding="ascii"), text.replace("old", "new"))
 
 
 class Words(unittest.TestCase):
@@ -94,11 +92,10 @@ class Words(unittest.TestCase):
         said = "measure: only what is measured in full is stored; measure --help says more\n"
         self.assertEqual((status, errors), (3, said))
 
-    def test_marks_of_the_document(self):
-        text = measure.DOCUMENT.read_text(encoding="utf-8")
-        for part in measure.HEADS:
-            self.assertIn(f"<!-- measured: {part} -->\n", text)
-            self.assertIn(f"<!-- end of measured: {part} -->\n", text)
+    def test_columns_of_the_stored_rows(self):
+        rows = measure.stored()
+        self.assertEqual(list(rows[0]), measure.COLUMNS)
+        self.assertEqual({row["part"] for row in rows}, set(measure.FIELDS))
 
 
 @needs_program
@@ -113,5 +110,5 @@ class Shares(InFolder):
             between = sum(0 < value < 1 for value in exact_values(model, question))
             name = "-".join([module.__name__.rpartition(".")[2], *map(str, sizes)])
             files = measure.Files(measure.Entry("", name, question.formula()), self.folder)
-            share = f"{100 * between / len(model):.1f} %"
-            self.assertEqual(measure.model_row(files, str(program()))[-1], share)
+            share = f"{between / len(model):.3f}"
+            self.assertEqual(measure.model_row(files, str(program()))["between"], share)

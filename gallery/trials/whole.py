@@ -1,6 +1,6 @@
 """Games in whole numbers: steps rounded down and up, sweeps, the states of value 0 and the swapped question.
 
-A value counts units of which 10^15 are probability 1. What is meant stands in docs/DEFINITIONS.md.
+A value counts units of which 10^15 are probability 1. What is meant is defined in crates/game_model/specs.
 """
 
 from dataclasses import dataclass

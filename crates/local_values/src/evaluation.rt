@@ -6,7 +6,7 @@ ghost use Rattle.float_games.specs.Units.{AreInUnits};
 
 use crate::elimination::Factors;
 use crate::krylov::approach;
-use crate::limits::{ENOUGH, is_narrow, products_of};
+use crate::limits::{ENOUGH, is_narrow, is_soon_eliminated};
 use float_games::{Chain, FloatGame, bounded};
 use game_outside::OutOfMemory;
 use std::alloc::Global;
@@ -16,9 +16,6 @@ const LEFT: f64 = 0.1;
 
 /// The most steps in a Krylov space.
 const STEPS: u32 = 400;
-
-/// The most products of an elimination that only refines.
-const REFINED: f64 = 30_000_000.0;
 
 /// Expected moves are near enough where a pass changes them by less than this.
 const MOVES: f64 = 0.1;
@@ -66,7 +63,7 @@ pub fn refine(
 {
     let chain = Chain::of_policy(game, policy);
     let band = chain.band();
-    if products_of(chain.nodes(), band) > REFINED || !is_narrow(chain.nodes(), band) {
+    if !is_soon_eliminated(chain.nodes(), band) {
         return Ok(());
     }
     let mut missed = chain.residuals(alloc, values)?;

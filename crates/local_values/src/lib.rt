@@ -17,14 +17,17 @@
 
 mod elimination;
 mod evaluation;
+mod exchange;
 mod iteration;
 mod krylov;
 mod limits;
 mod pace;
+mod slide;
 mod solving;
 mod vectors;
 
 pub use elimination::Factors;
 pub use evaluation::{expected_moves, refine};
 pub use krylov::approach;
-pub use solving::solve;
+pub use slide::{Slide, find_slide};
+pub use solving::{solve, solve_nearly};

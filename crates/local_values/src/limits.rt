@@ -20,6 +20,14 @@ pub(crate) fn products_of(nodes: usize, band: Band) -> f64 {
     nearest_usize_to_f64(nodes) * (f64::from(band.back) + 1.0) * (f64::from(band.forth) + 1.0)
 }
 
+/// The most products of an elimination that takes little.
+const FEW_PRODUCTS: f64 = 30_000_000.0;
+
+/// Whether the elimination of a chain of so many nodes takes little.
+pub(crate) fn is_soon_eliminated(nodes: usize, band: Band) -> bool {
+    products_of(nodes, band) <= FEW_PRODUCTS && is_narrow(nodes, band)
+}
+
 /// Whether a band is narrow enough for an elimination.
 pub(crate) fn is_narrow(nodes: usize, band: Band) -> bool {
     let width = f64::from(band.back) + f64::from(band.forth) + 1.0;

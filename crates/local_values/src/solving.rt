@@ -4,6 +4,8 @@ ghost use Rattle.std.specs.Prelude.{◌≡◌, IsTrue, OnOk, length};
 ghost use Rattle.float_games.specs.Nodes.{nodes_of};
 ghost use Rattle.float_games.specs.Units.{AreInUnits};
 
+use crate::evaluation::refine;
+use crate::exchange::exchange;
 use crate::iteration::iterate;
 use crate::limits::{ENOUGH, GAIN};
 use crate::pace::Pace;
@@ -19,6 +21,32 @@ const SWEEPS: u32 = 8;
 
 /// What the last sweeps may change where values count as found.
 const FOUND: f64 = 64.0;
+
+/// How many times choices are exchanged by differences at most.
+const TURNS: u32 = 20;
+
+/// Brings values and a policy near those of the game, and values nearer from what they miss. Choices may tie in floats
+/// and gain by differences, where loops make much of little: then they are exchanged. The only error is want of memory.
+pub fn solve_nearly(
+    alloc: Global,
+    game: &FloatGame,
+    values: &mut [f64],
+    policy: &mut [u32],
+) -> Result<(), OutOfMemory>
+    requires values { length values.old ≡ nodes_of game.now }
+    requires policy { length policy.old ≡ nodes_of game.now }
+    ensures { OnOk result (AreInUnits values.new) }
+{
+    let _is_found = solve(alloc, game, 0.0, values, policy)?;
+    refine(alloc, game, policy, values)?;
+    for _ in 0..TURNS {
+        if !exchange(alloc, game, values, policy)? {
+            break;
+        }
+        refine(alloc, game, policy, values)?;
+    }
+    Ok(())
+}
 
 /// Brings values and a policy near those of the game where each move costs so many units: for lower values the policy
 /// of the maximiser should leave for sure, and values be low. True where a sweep changes little in the end. The only

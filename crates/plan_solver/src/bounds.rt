@@ -17,6 +17,7 @@ use game_outside::OutOfMemory;
 use predecessors::Predecessors;
 use solved_plans::Candidates;
 use std::alloc::Global;
+use std::num::nearest_u64_to_f64;
 use table_rounding::UnitTable;
 
 /// The most times that upper tables are found, each over better replies.
@@ -155,10 +156,13 @@ fn upper_table(
     ensures { IfOk result (λ t. length t ≡ states frame.now.question.now) }
 {
     let mut table = known_table(alloc, frame.question, frame.sure)?;
+    let mut shown = shown_values(alloc, &table)?;
     let mut first: u32 = 0;
     for _ in 0..TURNS {
-        upper_turn(alloc, frame, first, start, &mut table, replies, node_of)?;
-        let Some(changed) = improve_replies(frame, &table, replies) else {
+        upper_turn(
+            alloc, frame, first, start, &mut table, &mut shown, replies, node_of,
+        )?;
+        let Some(changed) = improve_replies(frame, &shown, replies) else {
             break;
         };
         first = changed;
@@ -166,13 +170,23 @@ fn upper_table(
     Ok(table)
 }
 
-/// Upper entries of all components from this one on, over these replies.
+/// The entries of a table as values.
+fn shown_values(alloc: Global, table: &UnitTable) -> Result<Vec<f64>, OutOfMemory> {
+    let mut values = Vec::with_capacity(alloc, table.entries().len())?;
+    for entry in table.entries() {
+        values.push(nearest_u64_to_f64(*entry))?;
+    }
+    Ok(values)
+}
+
+/// Upper entries of all components from this one on, over these replies, and values to compare replies by.
 fn upper_turn(
     alloc: Global,
     frame: &Frame<'_, '_>,
     first: u32,
     start: &Start<'_>,
     table: &mut UnitTable,
+    shown: &mut [f64],
     replies: &mut [u32],
     node_of: &mut [u32],
 ) -> Result<(), OutOfMemory>
@@ -191,6 +205,7 @@ fn upper_turn(
                 &end_components,
                 start,
                 table,
+                shown,
                 replies,
                 node_of,
             )?;

@@ -9,7 +9,7 @@ use crate::frame::Frame;
 use float_games::{Bound, Draft, FloatGame};
 use game_model::{Question, Side};
 use game_outside::OutOfMemory;
-use local_values::{refine, solve};
+use local_values::solve_nearly;
 use std::alloc::Global;
 use std::num::nearest_u64_to_f64;
 use table_rounding::{Setting, UnitTable, round_component, single_entry};
@@ -61,8 +61,7 @@ pub(crate) fn lower_component(
         return Ok(());
     }
     let mut values = vec![in alloc; 0.0; game.nodes()]?;
-    let _is_found = solve(alloc, &game, 0.0, &mut values, &mut policy)?;
-    refine(alloc, &game, &policy, &mut values)?;
+    solve_nearly(alloc, &game, &mut values, &mut policy)?;
     for (place, state) in members.iter().enumerate() {
         if let (Some(choice), Some(value)) = (policy.get(place), values.get(place)) {
             note(replies, *state, game.mark(*choice));
@@ -92,7 +91,7 @@ pub(crate) fn note(choices: &mut [u32], state: u32, choice: u32)
 }
 
 /// Notes a value of a state.
-fn note_value(values: &mut [f64], state: u32, value: f64) {
+pub(crate) fn note_value(values: &mut [f64], state: u32, value: f64) {
     if let Some(entry) = values.get_mut(state as usize) {
         *entry = value;
     }

@@ -1,4 +1,4 @@
-//! Better replies of the minimiser, over an upper table.
+//! Better replies of the minimiser, over upper values.
 
 ghost use Rattle.std.specs.Prelude.{◌≡◌, ◌<◌, length};
 ghost use Rattle.game_model.specs.Query.{states};
@@ -8,7 +8,6 @@ use crate::lower::note;
 use crate::weights::{float_of, is_narrow};
 use game_model::{Question, Row, Side};
 use std::num::nearest_u64_to_f64;
-use table_rounding::UnitTable;
 
 /// A reply is exchanged for one that gives less by more than so many units.
 const GAIN: f64 = 4.0;
@@ -16,10 +15,9 @@ const GAIN: f64 = 4.0;
 /// Exchanges replies for better ones. Gives the first component with an exchange, or nothing where there is none.
 pub(crate) fn improve_replies(
     frame: &Frame<'_, '_>,
-    upper: &UnitTable,
+    upper: &[f64],
     replies: &mut [u32],
 ) -> Option<u32>
-    requires { length upper.now ≡ states frame.now.question.now }
     ensures { length replies.new ≡ length replies.old }
 {
     let mut first: Option<u32> = None;
@@ -36,9 +34,8 @@ pub(crate) fn improve_replies(
 }
 
 /// Exchanges the reply of a state for a better one. Whether there is one.
-fn is_improved(frame: &Frame<'_, '_>, upper: &UnitTable, replies: &mut [u32], state: u32) -> bool
+fn is_improved(frame: &Frame<'_, '_>, upper: &[f64], replies: &mut [u32], state: u32) -> bool
     requires state { state < states frame.now.question.now }
-    requires upper { length upper.now ≡ states frame.now.question.now }
     ensures { length replies.new ≡ length replies.old }
 {
     if frame.question.game().choices_of(state) == 1
@@ -47,7 +44,7 @@ fn is_improved(frame: &Frame<'_, '_>, upper: &UnitTable, replies: &mut [u32], st
     {
         return false;
     }
-    let own = nearest_u64_to_f64(upper.get(state));
+    let own = value_at(upper, state);
     let best = best_reply(frame.question, upper, state);
     if !(best.value < own - GAIN) || replies.get(state as usize).copied() == Some(best.choice) {
         return false;
@@ -64,17 +61,17 @@ struct Reply {
 }
 
 /// The choice that gives the least.
-fn best_reply(question: &Question, upper: &UnitTable, state: u32) -> Reply
+fn best_reply(question: &Question, upper: &[f64], state: u32) -> Reply
     requires { state < states question.now }
 {
     let row = question.row(state);
     row.known();
     let mut best = Reply {
         choice: 0,
-        value: value_of(&row, upper.entries(), 0),
+        value: value_of(&row, upper, 0),
     };
     for choice in 1..row.choices() {
-        let value = value_of(&row, upper.entries(), choice);
+        let value = value_of(&row, upper, choice);
         if value < best.value {
             best = Reply { choice, value };
         }
@@ -82,28 +79,28 @@ fn best_reply(question: &Question, upper: &UnitTable, state: u32) -> Reply
     best
 }
 
-/// What a choice gives by the table.
-fn value_of(row: &Row<'_>, entries: &[u64], choice: u32) -> f64
+/// What a choice gives by these values.
+fn value_of(row: &Row<'_>, values: &[f64], choice: u32) -> f64
     requires { choice < length row.now }
 {
     let mut sum = 0.0;
     if is_narrow(row.total(choice)) {
         let weights = row.narrow_weights(choice);
         for (to, weight) in row.successors(choice).iter().zip(weights) {
-            sum += nearest_u64_to_f64(*weight) * entry_of(entries, *to);
+            sum += nearest_u64_to_f64(*weight) * value_at(values, *to);
         }
     } else {
         for place in 0..row.edge_count(choice) {
             let edge = row.edge(choice, place);
-            sum += float_of(edge.weight) * entry_of(entries, edge.to);
+            sum += float_of(edge.weight) * value_at(values, edge.to);
         }
     }
     sum / float_of(row.total(choice))
 }
 
-/// The entry of a state.
-fn entry_of(entries: &[u64], state: u32) -> f64 {
-    nearest_u64_to_f64(entries.get(state as usize).copied().unwrap_or(0))
+/// The value of a state.
+fn value_at(values: &[f64], state: u32) -> f64 {
+    values.get(state as usize).copied().unwrap_or(0.0)
 }
 
 /// Whether the side of a state may take a choice: the minimiser plays its reply.

@@ -7,12 +7,12 @@ use crate::approach::NONE;
 use crate::edges::{add_edges, draft_of};
 use crate::end_components::EndComponents;
 use crate::frame::Frame;
-use crate::lower::{clear_nodes, note, numbers, place_nodes};
+use crate::lower::{clear_nodes, note, note_value, numbers, place_nodes};
 use crate::replies::is_played;
 use float_games::{Bound, Draft, FloatGame};
 use game_model::{Question, Side};
 use game_outside::OutOfMemory;
-use local_values::{refine, solve};
+use local_values::solve_nearly;
 use std::alloc::Global;
 use std::num::nearest_u64_to_f64;
 use table_rounding::{Setting, UnitTable, round_component, single_entry};
@@ -43,8 +43,9 @@ struct Local {
     policy: Vec<u32>,
 }
 
-/// Finds upper entries for the states of a component, where the minimiser plays these replies. The states of an end
-/// component have one node, with the choices that leave it. Where no values are found, the entries are the unit.
+/// Finds upper entries for the states of a component, where the minimiser plays these replies, and values to compare
+/// replies by: the entries, or what could not be rounded. The states of an end component have one node, with the
+/// choices that leave it. Where no values are found, the entries are the unit.
 pub(crate) fn upper_component(
     alloc: Global,
     frame: &Frame<'_, '_>,
@@ -52,6 +53,7 @@ pub(crate) fn upper_component(
     end_components: &EndComponents,
     start: &Start<'_>,
     upper: &mut UnitTable,
+    shown: &mut [f64],
     replies: &mut [u32],
     node_of: &mut [u32],
 ) -> Result<(), OutOfMemory>
@@ -66,6 +68,7 @@ pub(crate) fn upper_component(
         let state = members[0];
         let entry = single_entry(frame.question, upper, Bound::Upper, state);
         upper.set(state, entry.value);
+        note_value(shown, state, nearest_u64_to_f64(entry.value));
         note(replies, state, entry.choice);
         return Ok(());
     }
@@ -86,8 +89,7 @@ pub(crate) fn upper_component(
     if values.len() != game.nodes() || policy.len() != game.nodes() {
         return Ok(());
     }
-    let _is_found = solve(alloc, &game, 0.0, &mut values, &mut policy)?;
-    refine(alloc, &game, &policy, &mut values)?;
+    solve_nearly(alloc, &game, &mut values, &mut policy)?;
     let setting = Setting {
         question: frame.question,
         predecessors: frame.predecessors,
@@ -97,8 +99,29 @@ pub(crate) fn upper_component(
         nodes: &nodes,
         bound: Bound::Upper,
     };
-    let _is_held = round_component(alloc, &setting, &values, &policy, replies, upper)?;
+    let is_held = round_component(alloc, &setting, &values, &policy, replies, upper)?;
+    show(members, &nodes, &values, is_held, upper, shown);
     Ok(())
+}
+
+/// Shows the entries of a component where they hold, and else the values of its nodes.
+fn show(
+    members: &[u32],
+    nodes: &[u32],
+    values: &[f64],
+    is_held: bool,
+    upper: &UnitTable,
+    shown: &mut [f64],
+) {
+    for (state, node) in members.iter().zip(nodes) {
+        let entry = upper.entries().get(*state as usize).copied().unwrap_or(0);
+        let value = if is_held {
+            nearest_u64_to_f64(entry)
+        } else {
+            values.get(*node as usize).copied().unwrap_or(0.0)
+        };
+        note_value(shown, *state, value);
+    }
 }
 
 /// The entry that always holds, for the states of a component.

@@ -10,7 +10,7 @@ use crate::table::UnitTable;
 use float_games::Bound;
 use game_model::{Side, UNIT};
 use game_outside::OutOfMemory;
-use local_values::{expected_moves, solve};
+use local_values::{find_slide, solve};
 use std::alloc::Global;
 
 /// Values of more nodes than this are not tried as they are.
@@ -57,18 +57,50 @@ pub fn round_component(
     if nodes <= MOST_BOLD && try_values(alloc, setting, values, policy, planned, table, bold)? {
         return Ok(true);
     }
-    if try_slope(alloc, setting, values, policy, planned, table)? {
+    let slope = try_slope(alloc, setting, values, policy, planned, table)?;
+    if slope == Slope::Held {
         return Ok(true);
     }
-    let mut cost = COST;
-    for _ in 0..COSTS {
-        if try_cost(alloc, setting, cost, values, policy, planned, table)? {
-            return Ok(true);
+    let stopped = entries_of(alloc, setting, table)?;
+    let is_held = try_costs(alloc, setting, values, policy, planned, table)?;
+    if slope == Slope::Failed {
+        if !is_held {
+            give_up(setting, table);
         }
-        cost *= COST_GROWTH;
+        return Ok(is_held);
     }
-    give_up(setting, table);
-    Ok(false)
+    let costly = entries_of(alloc, setting, table)?;
+    if !is_held || !is_nearer(setting.bound, &costly, &stopped) {
+        plan(setting, policy, planned);
+        put_back(setting, &stopped, table);
+    }
+    Ok(true)
+}
+
+/// How a try of values that are moved away ended: it failed, or entries hold, of which some may have stopped at the end
+/// of their room.
+#[derive(Clone, Copy, PartialEq, Eq)]
+enum Slope {
+    Failed,
+    Held,
+    HeldPastStops,
+}
+
+/// Whether entries are in all nearer to the values than others.
+fn is_nearer(bound: Bound, entries: &[u64], others: &[u64]) -> bool {
+    match bound {
+        Bound::Lower => sum_of(entries) > sum_of(others),
+        Bound::Upper => sum_of(entries) < sum_of(others),
+    }
+}
+
+/// The sum of entries.
+fn sum_of(entries: &[u64]) -> u128 {
+    let mut sum: u128 = 0;
+    for entry in entries {
+        sum = sum.saturating_add(u128::from(*entry));
+    }
+    sum
 }
 
 /// Plans the maximiser's choices of a lower table by a policy. Those of an upper table are the minimiser's, whose
@@ -128,29 +160,86 @@ fn try_slope(
     policy: &[u32],
     planned: &[u32],
     table: &mut UnitTable,
-) -> Result<bool, OutOfMemory>
+) -> Result<Slope, OutOfMemory>
     requires values { length values.now ≡ nodes_of setting.now.game.now }
     requires policy { length policy.now ≡ nodes_of setting.now.game.now }
     requires planned { length planned.now ≡ states setting.now.question.now }
     requires many { length table.old ≡ states setting.now.question.now }
     ensures { length table.new ≡ length table.old }
 {
-    let Some(moves) = expected_moves(alloc, setting.game, policy)? else {
-        return Ok(false);
+    let rooms = rooms_of(alloc, setting, values)?;
+    let Some(slide) = find_slide(alloc, setting.game, policy, SLOPE, &rooms)? else {
+        return Ok(Slope::Failed);
     };
-    let slope = match setting.bound {
-        Bound::Lower => -SLOPE,
-        Bound::Upper => SLOPE,
+    let sign = match setting.bound {
+        Bound::Lower => -1.0,
+        Bound::Upper => 1.0,
     };
-    let far = between(alloc, values, &moves, slope)?;
+    let slope = sign * SLOPE;
+    let least = between(alloc, values, &slide.drops, sign)?;
+    let far = between(alloc, &least, &slide.moves, slope)?;
     let effort = full_effort(setting);
     if !try_values(alloc, setting, &far, policy, planned, table, effort)? {
-        return Ok(false);
+        return Ok(Slope::Failed);
     }
     narrow(
-        alloc, setting, values, &moves, slope, policy, planned, table,
+        alloc,
+        setting,
+        &least,
+        &slide.moves,
+        slope,
+        policy,
+        planned,
+        table,
     )?;
-    Ok(true)
+    Ok(if widest(&slide.drops) > 0.0 {
+        Slope::HeldPastStops
+    } else {
+        Slope::Held
+    })
+}
+
+/// How far each value can be moved away.
+fn rooms_of(
+    alloc: Global,
+    setting: &Setting<'_, '_>,
+    values: &[f64],
+) -> Result<Vec<f64>, OutOfMemory>
+    ensures { IfOk result (λ list. vec_len list ≡ length values.now) }
+{
+    let mut list = values.to_vec(alloc)?;
+    if setting.bound == Bound::Upper {
+        for room in &mut list {
+            *room = float_games::UNIT - *room;
+        }
+    }
+    Ok(list)
+}
+
+/// Tries values that are found anew where each move costs some units, and more from try to try.
+fn try_costs(
+    alloc: Global,
+    setting: &Setting<'_, '_>,
+    values: &[f64],
+    policy: &[u32],
+    planned: &mut [u32],
+    table: &mut UnitTable,
+) -> Result<bool, OutOfMemory>
+    requires values { length values.now ≡ nodes_of setting.now.game.now }
+    requires policy { length policy.now ≡ nodes_of setting.now.game.now }
+    requires planned { length planned.old ≡ states setting.now.question.now }
+    requires many { length table.old ≡ states setting.now.question.now }
+    ensures table { length table.new ≡ length table.old }
+    ensures planned { length planned.new ≡ length planned.old }
+{
+    let mut cost = COST;
+    for _ in 0..COSTS {
+        if try_cost(alloc, setting, cost, values, policy, planned, table)? {
+            return Ok(true);
+        }
+        cost *= COST_GROWTH;
+    }
+    Ok(false)
 }
 
 /// Tries values that are found anew where each move costs so many units.

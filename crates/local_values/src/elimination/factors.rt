@@ -28,10 +28,36 @@ impl Factors {
         requires { band.back + band.forth + 1 < 2 ^ 32 }
         ensures { IfOk result (λ f. rows_of f ≡ nodes_in chain.now) }
     {
+        let none = vec![in alloc; false; chain.nodes()]?;
+        Factors::past_stops(alloc, chain, band, &none)
+    }
+
+    /// The factors of the chain that leaves at once from nodes where it stops.
+    pub(crate) fn past_stops(
+        alloc: Global,
+        chain: &Chain,
+        band: Band,
+        stops: &[bool],
+    ) -> Result<Factors, OutOfMemory>
+        requires band { band.back + band.forth + 1 < 2 ^ 32 }
+        requires stops { length stops.now ≡ nodes_in chain.now }
+        ensures { IfOk result (λ f. rows_of f ≡ nodes_in chain.now) }
+    {
         let shape = Shape::of_band(chain.nodes(), band.back, band.forth);
         let mut cells = vec![in alloc; 0.0; shape.cells()]?;
-        fill(shape, chain, &mut cells);
         let mut leaks = chain.leaves(alloc)?;
+        for row in 0..shape.rows {
+            if stops[row] {
+                leaks[row] = 1.0;
+            } else {
+                fill_row(
+                    shape.back,
+                    row,
+                    chain,
+                    row_of(&mut cells, shape.width, row, shape.rows),
+                );
+            }
+        }
         let mut outs = vec![in alloc; 0.0; shape.rows]?;
         eliminate(shape, &mut cells, &mut leaks, &mut outs);
         Ok(Factors { shape, cells, outs })
@@ -76,17 +102,6 @@ impl Factors {
         let most = self.shape.back.min(row);
         let shares = &self.cells[end - most..end];
         (values[row] + product(shares, &values[row - most..row])) / out
-    }
-}
-
-/// Puts the shares of a chain into the cells of a band.
-fn fill(shape: Shape, chain: &Chain, cells: &mut [f64])
-    requires cells { length cells.old ≡ shape.rows * shape.width }
-    requires rows { shape.rows ≡ nodes_in chain.now }
-{
-    for row in 0..shape.rows {
-        let target = row_of(cells, shape.width, row, shape.rows);
-        fill_row(shape.back, row, chain, target);
     }
 }
 
