@@ -5,12 +5,12 @@ from dataclasses import dataclass, field
 from fractions import Fraction
 from typing import Optional
 
-from asking import TRUTHS, UNIT, asked, bracket_of, failures, verdict_of
-from exact import Problem, exact_values
-from known import agrees
-from question import Question
-from solved import Solved
-from table import shown
+from gallery.families import agrees
+from gallery.solved import Solved, faults_of_bounds
+from gallery.table import shown
+from toolbox.exact import Problem, exact_values
+from toolbox.model import Question
+from toolbox.programs import UNIT, asked, bracket_of, failures, verdict_of
 
 
 @dataclass
@@ -55,7 +55,7 @@ def answers(name, model, path, questions):
         begun = time.monotonic()
         run = asked(question.command, path, model, question, *options_of(question))
         seconds = time.monotonic() - begun
-        inside, lines = parted(question, run.stdout.splitlines())
+        inside, lines = parted(question, run.output.splitlines())
         answer = Answer(name, len(model), question, Fraction(values[0]), inside, lines[0], seconds)
         if failures(run):
             answer.faults += failures(run)
@@ -87,7 +87,7 @@ def independent_values(model, question, computed):
         return [1] * len(model)
     if question.path == "G":
         return [1 - value for value in independent_values(model, question.dual(), computed)]
-    key = (question.path, question.steps, question.goal, question.safe, tuple(Problem(model, question).maximises))
+    key = (question.path, question.steps, question.left, question.right, tuple(Problem(model, question).maximises))
     if key not in computed:
         computed[key] = exact_values(model, question)
     return computed[key]
@@ -108,13 +108,9 @@ def judge_published(answer):
 def judge_inside(answer):
     """The line before the report counts the formulas inside, and leaves each undecided at no more than all states."""
     count, words = len(answer.question.inside()), answer.inside.split()
-    is_counted = words[:3] == ["inner", str(count), "undecided"] and is_at_most(words[3:], count * answer.states)
-    if count and not is_counted:
+    is_counted = len(words) == 4 and words[:3] == ["inner", str(count), "undecided"] and words[3].isdigit()
+    if count and not (is_counted and int(words[3]) <= count * answer.states):
         answer.faults.append(f"the line before the report does not speak of {count} formulas inside")
-
-
-def is_at_most(words, most):
-    return len(words) == 1 and words[0].isdigit() and int(words[0]) <= most
 
 
 def judge_bracket(answer, lines):
@@ -122,12 +118,8 @@ def judge_bracket(answer, lines):
         answer.faults.append("there is no bracket of one initial state")
         return
     lower, upper = map(Fraction, answer.bracket())
-    if not lower <= answer.value <= upper:
-        answer.faults.append(f"the bracket misses the value {shown(answer.value)}")
+    answer.faults += faults_of_bounds(lines[0], answer.question, answer.value)
     judge_steps(answer, max(answer.value - lower, upper - answer.value))
-    told = TRUTHS.get(answer.verdict())
-    if told is not None and told != answer.question.is_true_of(answer.value):
-        answer.faults.append(f"the verdict is wrong of the value {shown(answer.value)}")
 
 
 def judge_steps(answer, distance):

@@ -20,13 +20,14 @@ from dataclasses import replace
 from fractions import Fraction
 from pathlib import Path
 
-import chain
-import coin
-import stall
-from answer import answers
-from exact import exact_values, plain_value_iteration
-from picture import Picture, linear, logarithmic, spelt_power
-from question import Question
+sys.path.insert(0, str(Path(__file__).resolve().parents[1]))
+
+from gallery.answer import answers
+from gallery.families import chain, coin, stall
+from gallery.picture import Picture, linear, logarithmic, spelt_power
+from toolbox.endings import UNREAD, Refusal, Words, ended
+from toolbox.exact import exact_values, plain_value_iteration
+from toolbox.model import ask
 
 FOLDER = Path(__file__).resolve().parent / "pictures"
 MEASURED = FOLDER.parent.parent / "docs" / "measured.tsv"
@@ -71,7 +72,7 @@ def draw_sides(picture, brackets):
 
 
 def draw_chain():
-    model, question = chain.model(17), Question("Pmax=?", "goal")
+    model, question = chain.model(17), ask("Pmax=?", "goal")
     picture = Picture(
         "The chain of Haddad and Monmege, n = 17; the value is 0.5", logarithmic(WORK, 4, 8), quarters()
     )
@@ -87,7 +88,7 @@ def quarters():
 
 
 def draw_coin():
-    model, question = coin.model(2, 8), Question("Pmin=?", "heads")
+    model, question = coin.model(2, 8), ask("Pmin=?", "heads")
     exact = exact_values(model, question)[0]
     title = f"The shared coin, 2 processes, K = 8; the value is {exact}"
     picture = Picture(title, logarithmic(WORK, 5, 8), logarithmic("width or distance, a probability", -15, 0, 3))
@@ -101,7 +102,7 @@ def draw_coin():
 
 
 def draw_stall():
-    model, question = stall.model(40), Question("Pmax=?", "won", coalition=("max",))
+    model, question = stall.model(40), ask("Pmax=?", "won", coalition=("max",))
     title = "The game in which both players may stall, stake 40; the value is 0.5"
     picture = Picture(title, logarithmic(WORK, 4, 7), quarters())
     draw_sides(picture, bounds(model, question, 5))
@@ -116,7 +117,7 @@ def draw_stall():
 def rows_of(part):
     """The rows of a part of what was measured."""
     if not MEASURED.exists():
-        sys.exit(f"{MEASURED} is not there: tools/measure writes it")
+        raise Refusal(MEASURED, None, "it is not there: tools/measure writes it", UNREAD)
     with open(MEASURED, newline="", encoding="ascii") as rows:
         return [row for row in csv.DictReader(rows, delimiter="\t") if row["part"] == part]
 
@@ -194,13 +195,13 @@ DRAWN = {"bounds": (draw_chain, draw_coin, draw_stall), "times": (draw_times, dr
 
 
 def main():
-    asked = sys.argv[1:] or ["bounds"]
-    if len(asked) > 1 or asked[0] not in DRAWN:
-        sys.exit(__doc__)
+    parser = Words("pictures.py", __doc__)
+    parser.add_argument("part", nargs="?", choices=list(DRAWN), default="bounds", help="which pictures")
+    asked = parser.parse_args().part
     FOLDER.mkdir(exist_ok=True)
-    for draw in DRAWN[asked[0]]:
+    for draw in DRAWN[asked]:
         draw()
 
 
 if __name__ == "__main__":
-    main()
+    ended("pictures.py", main)

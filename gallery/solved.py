@@ -11,9 +11,7 @@ from dataclasses import dataclass, field
 from fractions import Fraction
 from pathlib import Path
 
-from asking import TRUTHS, asked, bracket_of, failures, verdict_of
-
-PATHS = ("F", "G")
+from toolbox.programs import TRUTHS, asked, bracket_of, failures, verdict_of, width_of
 
 
 @dataclass
@@ -24,17 +22,13 @@ class Solved:
     seconds: float
     faults: list = field(default_factory=list)
 
-    def width(self):
-        """How far the bounds lie apart, or none where there are none."""
-        bracket = bracket_of(self.line)
-        return Fraction(bracket[1]) - Fraction(bracket[0]) if bracket else None
-
     def summary(self):
         """The width as a float, and the verdict where there is a threshold."""
-        if self.width() is None:
+        width = width_of(self.line)
+        if width is None:
             return "none"
         verdict = verdict_of(self.line)
-        return spelt(self.width()) + (f", {verdict}" if verdict != "Bracket" else "")
+        return spelt(width) + (f", {verdict}" if verdict != "Bracket" else "")
 
 
 def spelt(width):
@@ -43,12 +37,7 @@ def spelt(width):
 
 def is_taken(question):
     """Whether `solve` takes the question: it has no bound on the steps, no `X` and no formula inside."""
-    return question.command == "check" and question.path in PATHS and question.steps is None and not question.inside()
-
-
-def title(question):
-    """The words of `solve`, without the files."""
-    return f"solve '{question.formula()}'"
+    return question.command == "check" and question.horizon() is None and not question.inside()
 
 
 def solved(model, path, question, value):
@@ -56,7 +45,7 @@ def solved(model, path, question, value):
     begun = time.monotonic()
     run = asked("solve", path, model, question)
     seconds = time.monotonic() - begun
-    lines = run.stdout.splitlines()
+    lines = run.output.splitlines()
     answer = Solved(lines[0] if lines else "", seconds, failures(run))
     if not answer.faults:
         answer.faults += faults_of_report(lines, question, value) + faults_of_plan(lines, model, path, question)
@@ -71,23 +60,27 @@ def faults_of_report(lines, question, value):
 
 
 def faults_of_line(line, question, value):
-    """What is wrong with a line, of a state with this value."""
+    """What is wrong with a line, of a state with this value, that has to say whether this is 0 or 1."""
     lower, upper = map(Fraction, bracket_of(line))
-    faults = []
-    if not lower <= value <= upper:
-        faults.append("the bracket misses the value")
-    if (lower == 1, upper == 0) != (value == 1, value == 0):
-        faults.append("the bounds do not say whether the value is 0 or 1")
+    says_ends = (lower == 1, upper == 0) == (value == 1, value == 0)
+    ends = [] if says_ends else ["the bounds do not say whether the value is 0 or 1"]
+    return faults_of_bounds(line, question, value) + ends
+
+
+def faults_of_bounds(line, question, value):
+    """What is wrong with the bounds and the verdict of a line, of a state with this value."""
+    lower, upper = map(Fraction, bracket_of(line))
+    faults = [] if lower <= value <= upper else ["the bracket misses the value"]
     if verdict_of(line) != verdict_by(question, lower, upper):
         faults.append("the verdict is not that of the bounds")
-    if question.threshold() and TRUTHS.get(verdict_of(line)) == (not question.is_true_of(value)):
+    if question.limit is not None and TRUTHS.get(verdict_of(line)) == (not question.is_true_of(value)):
         faults.append("the verdict is wrong of the value")
     return faults
 
 
 def verdict_by(question, lower, upper):
     """What bounds say of a threshold: all values between them keep it, none does, or some do."""
-    if question.threshold() is None:
+    if question.limit is None:
         return "Bracket"
     kept = {question.is_true_of(lower), question.is_true_of(upper)}
     return str(kept.pop()) if len(kept) == 1 else "Undecided"
@@ -96,13 +89,13 @@ def verdict_by(question, lower, upper):
 def faults_of_plan(lines, model, path, question, *options):
     """What is wrong with the certificate of the same question, with these options, and what an audit says of it."""
     plan = asked("solve", path, model, question, "--plan", *options)
-    if failures(plan) or plan.stdout.splitlines()[: len(lines)] != lines:
+    if failures(plan) or plan.output.splitlines()[: len(lines)] != lines:
         return ["--plan begins with another answer"]
     with tempfile.TemporaryDirectory() as room:
         certificate = Path(room) / "certificate"
-        certificate.write_text(plan.stdout, encoding="ascii")
+        certificate.write_text(plan.output, encoding="ascii")
         audit = asked("audit", path, model, question, certificate)
     expected = [line.replace(" solved ", " audited ") for line in lines]
-    if failures(audit) or audit.stdout.splitlines() != expected:
-        return [f"the audit says {audit.stdout.strip()}"]
+    if failures(audit) or audit.output.splitlines() != expected:
+        return [f"the audit says {audit.output.strip()}"]
     return []

@@ -5,7 +5,7 @@ import re
 import string
 import textwrap
 
-from solved import title
+from toolbox.endings import Refusal
 
 MOST_OF_A_DENOMINATOR = 10**9
 PLACES = 18
@@ -34,7 +34,7 @@ def key_of(name, question):
 
 
 def solved_key_of(name, question):
-    return f"{name}\t{title(question)}"
+    return f"{name}\tsolve '{question.formula()}'"
 
 
 def read_lines(path):
@@ -73,8 +73,10 @@ def contents(names):
 def write_between(path, mark, text):
     """Puts a text between the two marks of this name."""
     begin, end = f"<!-- {mark} -->\n", f"<!-- end of {mark} -->\n"
-    before, rest = path.read_text(encoding="utf-8").split(begin)
-    path.write_text(before + begin + text + end + rest.split(end)[1], encoding="utf-8")
+    before, found, rest = path.read_text(encoding="utf-8").partition(begin)
+    if not found or end not in rest:
+        raise Refusal(path.name, None, f"no marks '{mark}'")
+    path.write_text(before + begin + text + end + rest.split(end, 1)[1], encoding="utf-8")
 
 
 def section(name, known, counts, answers):

@@ -1,50 +1,36 @@
-"""Tests of the gallery's own parts: python3 -m unittest discover gallery"""
+"""Tests of the gallery's own parts: python3 -m unittest gallery/test_gallery.py"""
 
 import contextlib
 import io
 import os
 import random
 import re
-import stat
 import sys
-import tempfile
 import unittest
 from fractions import Fraction
 from pathlib import Path
 from unittest import mock
 from xml.etree import ElementTree
 
-HERE = Path(__file__).resolve().parent
-sys.path[:0] = [str(HERE), str(HERE / "trials")]
+from gallery import pictures
+from gallery.answer import Answer, judge_bracket, judge_inside, parted
+from gallery.families import OTHER, SIZES, Known, agrees, brp, chain, charlton, coin, csma, egl, hallway, instances
+from gallery.families import investor, known_as, microgrid, same_or_size, teams, wlan
+from gallery.picture import BOTTOM, LEFT, RIGHT, Picture, linear, logarithmic
+from gallery.solved import Solved, faults_of_line, is_taken, solved
+from gallery.solved import spelt as spelt_width
+from gallery.table import contents, joined, read_lines, write_lines, write_markdown
+from toolbox.drawn import drawn_game, drawn_question, drawn_values, fault_of, stays_open
+from toolbox.exact import exact_values, plain_value_iteration
+from toolbox.model import CLOSED, HALF, Model, ask, spelt, sure
+from toolbox.programs import ROOT, bracket_of
+from toolbox.testing import InFolder
 
-import brp
-import chain
-import charlton
-import coin
-import csma
-import egl
-import hallway
-import investor
-import microgrid
-import pictures
+sys.path.insert(0, str(ROOT / "gallery" / "trials"))
+
 import stiff
-import teams
-import wlan
-from answer import Answer, judge_bracket, judge_inside, parted
-from asking import bracket_of
-from drawn import drawn_game, drawn_question, drawn_values, fault_of, stays_open
-from exact import exact_values, plain_value_iteration
-from families import SIZES, instances
-from known import OTHER, Known, agrees, same_or_size
-from model import Model, spelt
-from picture import BOTTOM, LEFT, RIGHT, Picture, linear, logarithmic
-from question import CLOSED, Inside, Question, sure
-from solved import Solved, faults_of_line, is_taken, solved
-from solved import spelt as spelt_width
-from table import contents, joined, read_lines, write_lines, write_markdown
 
 MOST_STATES, MOST_STEPS = 130, 300
-HALF = Fraction(1, 2)
 
 
 def coin_loop():
@@ -85,29 +71,29 @@ class Files(unittest.TestCase):
 
 class Values(unittest.TestCase):
     def test_coin_loop(self):
-        self.assertEqual(exact_values(coin_loop(), Question("Pmax=?", "goal")), [HALF, 1, 0])
-        self.assertAlmostEqual(plain_value_iteration(coin_loop(), Question("Pmax=?", "goal"), 1e-9)[-1], 0.5)
+        self.assertEqual(exact_values(coin_loop(), ask("Pmax=?", "goal")), [HALF, 1, 0])
+        self.assertAlmostEqual(plain_value_iteration(coin_loop(), ask("Pmax=?", "goal"), 1e-9)[-1], 0.5)
 
     def test_coin_loop_within_steps(self):
         for steps, value in enumerate((0, Fraction(1, 4), Fraction(3, 8), Fraction(7, 16))):
-            self.assertEqual(exact_values(coin_loop(), Question("Pmin=?", "goal", steps=steps)), [value, 1, 0])
+            self.assertEqual(exact_values(coin_loop(), ask("Pmin=?", "goal", steps=steps)), [value, 1, 0])
 
     def test_the_next_step_and_always(self):
-        self.assertEqual(exact_values(coin_loop(), Question("Pmax=?", "!goal", path="X")), [Fraction(3, 4), 0, 1])
-        self.assertEqual(exact_values(coin_loop(), Question("Pmax=?", "!goal", path="G")), [HALF, 0, 1])
+        self.assertEqual(exact_values(coin_loop(), ask("Pmax=?", "!goal", path="X")), [Fraction(3, 4), 0, 1])
+        self.assertEqual(exact_values(coin_loop(), ask("Pmax=?", "!goal", path="G")), [HALF, 0, 1])
 
     def test_formulas_inside(self):
-        likely, certain = Question("P>=0.5", "goal"), Question("P>=1", "goal")
-        self.assertEqual(exact_values(coin_loop(), Question("P>=1", Inside(likely))), [1, 1, 0])
-        self.assertEqual(exact_values(coin_loop(), Question("Pmax=?", Inside(certain))), [HALF, 1, 0])
-        never = Question("Pmax=?", Inside(certain, negated=True), path="G")
+        likely, certain = ask("P>=0.5", "goal"), ask("P>=1", "goal")
+        self.assertEqual(exact_values(coin_loop(), ask("P>=1", likely)), [1, 1, 0])
+        self.assertEqual(exact_values(coin_loop(), ask("Pmax=?", certain)), [HALF, 1, 0])
+        never = ask("Pmax=?", ("!", certain), path="G")
         self.assertEqual(exact_values(coin_loop(), never), [HALF, 0, 1])
-        known = Question("Pmax=?", "goal", safe=Inside(Question("P>0.5", "goal", coalition=("p0",))))
+        known = ask("Pmax=?", "goal", safe=ask("P>0.5", "goal", coalition=("p0",)))
         self.assertEqual(exact_values(coin_loop(), known), [0, 1, 0])
 
     def test_the_chain_stops_as_told(self):
         for length, rounds in chain.STOPS.items():
-            plain = plain_value_iteration(chain.model(length), Question("Pmax=?", "goal"), 1e-6)
+            plain = plain_value_iteration(chain.model(length), ask("Pmax=?", "goal"), 1e-6)
             self.assertEqual(len(plain) - 1, rounds)
             self.assertAlmostEqual(plain[-1], float(chain.reached_within(length, rounds)))
 
@@ -150,7 +136,7 @@ class KnownModels(unittest.TestCase):
         for name, module, sizes in instances("small"):
             states, _, moves = module.model(*sizes).counts()
             with self.subTest(model=name):
-                self.assertEqual(module.known_as(*sizes).faults(states, moves), [])
+                self.assertEqual(known_as(module, sizes).faults(states, moves), [])
 
     def test_models_of_the_benchmark_set(self):
         """The numbers of states and moves, and values, that are published of some models that are not among the small
@@ -170,7 +156,7 @@ class KnownModels(unittest.TestCase):
 
 class Games(unittest.TestCase):
     def value(self, model, goal, *coalition):
-        return exact_values(model, Question("Pmax=?", goal, coalition=coalition))[0]
+        return exact_values(model, ask("Pmax=?", goal, coalition=coalition))[0]
 
     def test_a_village_of_one_block(self):
         """Two roads to the house, each with a jam at worst: 0.1 * 0.01."""
@@ -210,7 +196,7 @@ class Games(unittest.TestCase):
         self.assertEqual(self.value(investor.model(2, 2, 2), "one_high", "i1"), Fraction(1, 4))
 
 
-class Pictures(unittest.TestCase):
+class Pictures(InFolder):
     def test_axes(self):
         axis = logarithmic("s", -2, 2)
         self.assertEqual([axis.share(value) for value in (0.001, 0.01, 1, 100, 1000)], [0, 0, 0.5, 1, 1])
@@ -219,12 +205,10 @@ class Pictures(unittest.TestCase):
 
     def drawn(self, draw, name, rows):
         """The words of a picture that is drawn of these rows, and how many curves and signs it has, as tags of SVG."""
-        with tempfile.TemporaryDirectory() as room:
-            places = {"FOLDER": Path(room), "MEASURED": Path(room) / "measured.tsv"}
-            places["MEASURED"].write_text(rows.replace(",", "\t"), encoding="ascii")
-            with mock.patch.multiple(pictures, **places), contextlib.redirect_stdout(io.StringIO()):
-                draw()
-            tree = ElementTree.parse(Path(room) / f"{name}.svg").getroot()
+        places = {"FOLDER": self.folder, "MEASURED": self.write("measured.tsv", rows.replace(",", "\t"))}
+        with mock.patch.multiple(pictures, **places), contextlib.redirect_stdout(io.StringIO()):
+            draw()
+        tree = ElementTree.parse(self.folder / f"{name}.svg").getroot()
         tags = [element.tag.rpartition("}")[2] for element in tree.iter()]
         return [element.text for element in tree.iter() if element.tag.endswith("text")], tags
 
@@ -295,7 +279,7 @@ class Answers(unittest.TestCase):
 
     def test_the_line_before_the_report(self):
         line = "state 0 lower 0.500000000000000 upper 0.500000000000000 rounds 50 Bracket"
-        plain, nested = Question("Pmax=?", "goal"), Question("Pmax=?", Inside(Question("P>=1", "goal")))
+        plain, nested = ask("Pmax=?", "goal"), ask("Pmax=?", ask("P>=1", "goal"))
         counted = self.answer_to(nested, "inner 1 undecided 0", line)
         self.assertEqual((counted.faults, counted.stored()), ([], f"inner 1 undecided 0, {line}"))
         self.assertEqual(counted.summary(), "Bracket, undecided 0")
@@ -307,7 +291,7 @@ class Answers(unittest.TestCase):
 
     def test_bounds_with_something_undecided_may_be_wide(self):
         line = "state 0 lower 0.250000000000000 upper 1.000000000000000 steps 3 Bracket"
-        nested = Question("Pmax=?", Inside(Question("P>=1", "goal")), steps=3)
+        nested = ask("Pmax=?", ask("P>=1", "goal"), steps=3)
         self.assertEqual(self.answer_to(nested, "inner 1 undecided 1", line).faults, [])
         self.assertTrue(self.answer_to(nested, "inner 1 undecided 0", line).faults)
 
@@ -323,20 +307,16 @@ SOLVED = "state 0 lower 0.{} upper 0.{} {} {}"
 LOOSE = SOLVED.format("4" + "9" * 14, "5" + "0" * 13 + "1", "solved", "Bracket")
 
 
-class Solving(unittest.TestCase):
+class Solving(InFolder):
     """What is required of `solve`, over a program that is made up, which prints the same lines of every question."""
 
     def setUp(self):
-        room = tempfile.TemporaryDirectory()
-        self.addCleanup(room.cleanup)
-        program = Path(room.name) / "program"
-        program.write_text(MADE_UP, encoding="ascii")
-        program.chmod(program.stat().st_mode | stat.S_IXUSR)
-        kept = dict(os.environ)
-        self.addCleanup(lambda: (os.environ.clear(), os.environ.update(kept)))
-        os.environ["STOGAME"] = str(program)
+        super().setUp()
+        around = mock.patch.dict(os.environ, STOGAME=self.write_command(MADE_UP))
+        around.start()
+        self.addCleanup(around.stop)
 
-    def answer(self, line, audit, question=Question("Pmax=?", "goal"), value=HALF):
+    def answer(self, line, audit, question=ask("Pmax=?", "goal"), value=HALF):
         os.environ.update(LINE=line, AUDIT=audit)
         return solved(coin_loop(), "none", question, value)
 
@@ -356,7 +336,7 @@ class Solving(unittest.TestCase):
 
     def test_a_value_outside(self):
         for value in (Fraction(1, 3), Fraction(2, 3)):
-            self.assertEqual(faults_of_line(LOOSE, Question("Pmax=?", "goal"), value), ["the bracket misses the value"])
+            self.assertEqual(faults_of_line(LOOSE, ask("Pmax=?", "goal"), value), ["the bracket misses the value"])
 
     def test_values_that_the_graph_decides(self):
         zeros, ends = "0" * 15, "the bounds do not say whether the value is 0 or 1"
@@ -370,48 +350,47 @@ class Solving(unittest.TestCase):
             (none, Fraction(1, 10**20), [ends]),
         ):
             with self.subTest(line=line, value=value):
-                found = faults_of_line(line, Question("Pmin=?", "goal"), value)
+                found = faults_of_line(line, ask("Pmin=?", "goal"), value)
                 self.assertEqual([fault for fault in found if fault == ends], faults)
 
     def test_verdicts(self):
         line = LOOSE.replace("Bracket", "{}")
         for bound, told in (("P>=0.5", "Undecided"), ("P>0.6", "False"), ("P<=0.6", "True"), ("P>=0.4", "True")):
-            question = Question(bound, "goal")
+            question = ask(bound, "goal")
             for verdict in ("True", "False", "Undecided"):
                 faults = faults_of_line(line.format(verdict), question, HALF)
                 self.assertEqual(not faults, verdict == told)
 
     def test_what_is_asked(self):
-        inner = Question("P>=1", "goal")
-        for question in (Question("Pmax=?", "goal", safe="ok"), Question("P>1/3", "!goal", path="G")):
+        inner = ask("P>=1", "goal")
+        for question in (ask("Pmax=?", "goal", safe="ok"), ask("P>1/3", "!goal", path="G")):
             self.assertTrue(is_taken(question))
         for question in (
-            Question("Pmax=?", "goal", path="X"),
-            Question("Pmax=?", "goal", steps=3),
-            Question("Pmax=?", Inside(inner)),
+            ask("Pmax=?", "goal", path="X"),
+            ask("Pmax=?", "goal", steps=3),
+            ask("Pmax=?", inner),
             sure("Pmax=?", "goal"),
         ):
             self.assertFalse(is_taken(question))
 
     def test_one_line_for_a_formula(self):
-        with tempfile.TemporaryDirectory() as room:
-            path = Path(room) / "lines.tsv"
-            write_lines(path, ["b", "a", "b", "c"], {"a": "1", "b": "2"})
-            self.assertEqual(path.read_text(encoding="ascii"), "b\t2\na\t1\n")
-            self.assertEqual(read_lines(path), {"a": "1", "b": "2"})
+        path = self.folder / "lines.tsv"
+        write_lines(path, ["b", "a", "b", "c"], {"a": "1", "b": "2"})
+        self.assertEqual(path.read_text(encoding="ascii"), "b\t2\na\t1\n")
+        self.assertEqual(read_lines(path), {"a": "1", "b": "2"})
 
 
-class Page(unittest.TestCase):
+class Page(InFolder):
     def test_a_section(self):
         """One row for a question; two where it is long; and the verdict of `solve` only where it is another one."""
         value, line = Fraction(1, 3), "state 0 lower 0.25 upper 0.5 {} {}"
         options = ("--rounds", "1000000", "--traps")
-        waits = Question("P>=0.2500000001", "goal", options=options, coalition=("anna", "bert", "carl"))
+        waits = ask("P>=0.2500000001", "goal", options=options, coalition=("anna", "bert", "carl"))
         asked = (
-            (Question("Pmax=?", "goal", source=CLOSED, published="0.33"), "Bracket", "Bracket"),
-            (Question("P>=0.3", "goal", source=CLOSED), "Undecided", "True"),
+            (ask("Pmax=?", "goal", source=CLOSED, published="0.33"), "Bracket", "Bracket"),
+            (ask("P>=0.3", "goal", source=CLOSED), "Undecided", "True"),
             (waits, "Undecided", "Undecided"),
-            (Question("Pmin=?", Inside(Question("P>=1", "goal")), source=CLOSED), "Bracket", None),
+            (ask("Pmin=?", ask("P>=1", "goal"), source=CLOSED), "Bracket", None),
         )
         answers = [
             Answer(
@@ -440,11 +419,9 @@ class Page(unittest.TestCase):
             "\n### b\n\n4 states, 4 choices, 6 moves. Values: computed in fractions.\n\n" + head
             + '| `Pmax=? [ F "goal" ]` | 1 |  | sure 4 of 4 |  |\n<!-- end of small -->\nbehind\n'
         )
-        with tempfile.TemporaryDirectory() as room:
-            path = Path(room) / "page"
-            path.write_text("before\n<!-- small -->\nold\n<!-- end of small -->\nbehind\n", encoding="utf-8")
-            write_markdown(path, "small", answers, models)
-            self.assertEqual(path.read_text(encoding="utf-8"), wanted)
+        path = self.write("page", "before\n<!-- small -->\nold\n<!-- end of small -->\nbehind\n")
+        write_markdown(path, "small", answers, models)
+        self.assertEqual(path.read_text(encoding="utf-8"), wanted)
 
     def test_both_bounds(self):
         for bracket, text in (
@@ -476,9 +453,9 @@ class Page(unittest.TestCase):
         known = {}
         for size in SIZES:
             for _, module, sizes in instances(size):
-                name = module.known_as(*sizes).name
+                name = known_as(module, sizes).name
                 for question in module.questions(*sizes):
-                    known.setdefault((module.__name__, question.formula()), []).append(name)
+                    known.setdefault((module.__name__.rpartition(".")[2], question.formula()), []).append(name)
         for there, family, formula in rows:
             with self.subTest(there=there, family=family):
                 model, asked = there.split(": ")
@@ -548,51 +525,46 @@ class Drawn(unittest.TestCase):
 
     def test_turns_of_stiff_models(self):
         """Of a loop that is left by one half, of a state before it, and of one that is never left."""
-        half = Fraction(1, 2)
-        rows = [{0: half, None: half}, {0: Fraction(1)}, {2: Fraction(1)}]
+        rows = [{0: HALF, None: HALF}, {0: Fraction(1)}, {2: Fraction(1)}]
         self.assertEqual(stiff.expected_turns(rows), [2, 3, float("inf")])
 
 
 class Questions(unittest.TestCase):
     def test_formulas(self):
-        self.assertEqual(Question("Pmax=?", "goal").formula(), 'Pmax=? [ F "goal" ]')
-        until = Question("P>=1/2", "goal", safe="!bad", coalition=("a", "b"))
+        self.assertEqual(ask("Pmax=?", "goal").formula(), 'Pmax=? [ F "goal" ]')
+        until = ask("P>=1/2", "goal", safe="!bad", coalition=("a", "b"))
         self.assertEqual(until.formula(), '<<a,b>> P>=1/2 [ !"bad" U "goal" ]')
         self.assertEqual(sure("P>=1", "goal").title(), """sure 'P>=1 [ F "goal" ]'""")
 
     def test_paths(self):
-        self.assertEqual(Question("Pmax=?", "goal", steps=3).formula(), 'Pmax=? [ F<=3 "goal" ]')
-        self.assertEqual(Question("Pmax=?", "goal", safe="ok", steps=3).formula(), 'Pmax=? [ "ok" U<=3 "goal" ]')
-        self.assertEqual(Question("Pmin=?", "!bad", path="G").formula(), 'Pmin=? [ G !"bad" ]')
-        self.assertEqual(Question("P>0", "goal", path="X").horizon(), 1)
+        self.assertEqual(ask("Pmax=?", "goal", steps=3).formula(), 'Pmax=? [ F<=3 "goal" ]')
+        self.assertEqual(ask("Pmax=?", "goal", safe="ok", steps=3).formula(), 'Pmax=? [ "ok" U<=3 "goal" ]')
+        self.assertEqual(ask("Pmin=?", "!bad", path="G").formula(), 'Pmin=? [ G !"bad" ]')
+        self.assertEqual(ask("P>0", "goal", path="X").horizon(), 1)
 
     def test_duals(self):
-        dual = Question("P>=1/3", "!bad", Fraction(1, 4), path="G").dual()
-        self.assertEqual((dual.formula(), dual.value), ('P<=2/3 [ F "bad" ]', Fraction(3, 4)))
-        self.assertEqual(Question("Pmax=?", "ok", path="G").dual().formula(), 'Pmin=? [ F !"ok" ]')
+        dual = ask("P>=1/3", "!bad", Fraction(1, 4), path="G").dual()
+        self.assertEqual((dual.formula(), dual.value), ('P<=2/3 [ F !!"bad" ]', Fraction(3, 4)))
+        self.assertEqual(ask("Pmax=?", "ok", path="G").dual().formula(), 'Pmin=? [ F !"ok" ]')
 
     def test_questions_with_formulas_inside(self):
-        inner = Question("P<0.3", "a", path="X", coalition=("p0",))
-        outer = Question("P>=0.6", Inside(inner), safe=Inside(inner, negated=True))
+        inner = ask("P<0.3", "a", path="X", coalition=("p0",))
+        outer = ask("P>=0.6", inner, safe=("!", inner))
         text = '<<p0>> P<0.3 [ X "a" ]'
         self.assertEqual(outer.formula(), f"P>=0.6 [ !{text} U {text} ]")
         self.assertEqual(outer.inside(), [inner, inner])
-        always = Question("P>=1/3", Inside(outer), path="G")
+        always = ask("P>=1/3", outer, path="G")
         self.assertEqual(always.dual().formula(), f"P<=2/3 [ F !{outer.formula()} ]")
         self.assertEqual(len(always.inside()), 3)
 
     def test_sides(self):
-        self.assertTrue(Question("P<=1", "goal").maximises(None))
-        self.assertFalse(Question("P>=1", "goal").maximises(None))
-        self.assertTrue(Question("P>=1", "goal", coalition=("a",)).maximises("a"))
-        self.assertFalse(Question("P>=1", "goal", coalition=("a",)).maximises("b"))
-        self.assertFalse(Question("Pmin=?", "goal", coalition=("a",)).maximises("a"))
+        self.assertTrue(ask("P<=1", "goal").maximises(None))
+        self.assertFalse(ask("P>=1", "goal").maximises(None))
+        self.assertTrue(ask("P>=1", "goal", coalition=("a",)).maximises("a"))
+        self.assertFalse(ask("P>=1", "goal", coalition=("a",)).maximises("b"))
+        self.assertFalse(ask("Pmin=?", "goal", coalition=("a",)).maximises("a"))
 
     def test_thresholds(self):
-        self.assertTrue(Question("P>=1/2", "goal").is_true_of(HALF))
-        self.assertFalse(Question("P>0.5", "goal").is_true_of(HALF))
-        self.assertEqual(Question("Pmax=?", "goal").threshold(), None)
-
-
-if __name__ == "__main__":
-    unittest.main()
+        self.assertTrue(ask("P>=1/2", "goal").is_true_of(HALF))
+        self.assertFalse(ask("P>0.5", "goal").is_true_of(HALF))
+        self.assertEqual(ask("Pmax=?", "goal").limit, None)

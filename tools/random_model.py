@@ -14,8 +14,13 @@ one player nearly all are 0 or 1: there is a way to a goal, or none.
 """
 
 import random
+import sys
+from pathlib import Path
 
-from endings import Words, ended
+sys.path.insert(0, str(Path(__file__).resolve().parents[1]))
+
+from toolbox.endings import Words, ended
+from toolbox.explicit import header_line
 
 MOVES = 2
 GOAL_EVERY = 1000
@@ -56,7 +61,7 @@ def write_transitions(path, states, choices, seed, places):
 
 def write_labels(path, states):
     with open(path, "w", encoding="ascii") as out:
-        out.write('0="init" 1="goal"\n0: 0\n')
+        out.write(header_line(("init", "goal")) + "0: 0\n")
         for state in range(states):
             if is_goal(state):
                 out.write(f"{state}: 1\n")
@@ -65,7 +70,7 @@ def write_labels(path, states):
 def write_owners(path, states, seed):
     draw = random.Random(f"{seed} owners")
     with open(path, "w", encoding="ascii") as out:
-        out.write(" ".join(f'{index}="{player}"' for index, player in enumerate(PLAYERS)) + "\n")
+        out.write(header_line(PLAYERS))
         for state in range(states):
             out.write(f"{state}: {draw.randrange(len(PLAYERS))}\n")
 

@@ -7,14 +7,11 @@ import unittest
 from pathlib import Path
 from unittest import mock
 
-import evidence
-import programs
-from calls import call_tool, loaded
-from formula_words import Bounded
-from test_reaudit import call
-from trials import TOOLS, InFolder, needs_program, program, run
+from tools.test_reaudit import call
+from toolbox import evidence, programs
+from toolbox.formulas import Reader
+from toolbox.testing import EXAMPLES, TOOLS, InFolder, call_tool, load, needs_program, program, run
 
-EXAMPLES = TOOLS.parent / "examples"
 FORMULA = '<<p1>> P>=0.6 [ F "goal" ]'
 
 # a formula and its sentence
@@ -48,13 +45,13 @@ class Sentences(unittest.TestCase):
     def test_questions_in_words(self):
         for formula, sentence in SENTENCES:
             with self.subTest(formula=formula):
-                self.assertEqual(Bounded(formula).words(), sentence)
+                self.assertEqual(Reader(formula).whole().words(), sentence)
 
 
 def hashed(text):
     """A dossier whose second line has the hash of what follows."""
     first, _, body = text.split("\n", 2)
-    return f"{first}\n{loaded('dossier').second_line(body)}\n{body}"
+    return f"{first}\n{load('dossier').second_line(body)}\n{body}"
 
 
 def second_here(question, *certificate):
@@ -107,7 +104,7 @@ class Dossiers(InFolder):
         self.assertIn(f"{script}: a script", errors)
 
     def test_behind_the_wrapper_is_what_was_built(self):
-        dossier = loaded("dossier")
+        dossier = load("dossier")
         with mock.patch.dict(os.environ, STOGAME=str(TOOLS.parent / "stogame")):
             self.assertEqual(dossier.program_file(), dossier.programs.BUILT)
 
@@ -124,7 +121,7 @@ class Dossiers(InFolder):
                 rest = self.text[self.text.index("\nlines ") :]
                 text = f"{self.text[:start]}\nsources commit 0 changed\n{filed}{rest}"
                 name = self.write("filed", hashed(text))
-                with mock.patch.object(loaded("dossier"), "provenance", lambda: ["sources unknown", today]):
+                with mock.patch.object(load("dossier"), "provenance", lambda: ["sources unknown", today]):
                     ended, output, errors = call_tool("dossier", "--verify", name)
                 self.assertEqual(ended, status)
                 self.assertIn(said, output + errors)
@@ -162,7 +159,7 @@ class Dossiers(InFolder):
 
     def refused(self, ended, lines):
         name = self.write("changed", "\n".join(lines))
-        with mock.patch.object(loaded("dossier"), "provenance", lambda: ["sources unknown", "kit unknown"]):
+        with mock.patch.object(load("dossier"), "provenance", lambda: ["sources unknown", "kit unknown"]):
             status, output, errors = call_tool("dossier", "--verify", name)
         self.assertEqual((status, output), (ended, ""), errors)
         self.assertTrue(errors.startswith("dossier: "), errors)
@@ -205,7 +202,3 @@ class Dossiers(InFolder):
         status, output, errors = call_tool("dossier", *self.files[:2], 'Pmax=? [ F "gaol" ]')
         said = "dossier: solve: refused question line 0 UnknownLabel gaol\n"
         self.assertEqual((status, output, errors), (4, "", said))
-
-
-if __name__ == "__main__":
-    unittest.main()

@@ -11,18 +11,14 @@ import sys
 import unittest
 from unittest import mock
 
-import evidence
-import programs
-from calls import call_tool, loaded
-from certified_models import GALLERY
-from test_dossier import second_here
-from trials import TOOLS, InFolder, needs_program, program, run
+from tools.test_dossier import second_here
+from toolbox import evidence, programs
+from toolbox.testing import EXAMPLES, MODELS, TOOLS, InFolder, call_tool, load, needs_program, program, run
 
-EXAMPLES = TOOLS.parent / "examples"
 GAME = [str(EXAMPLES / f"two_players.{ending}") for ending in ("tra", "lab", "own")]
 OWN = ["--own", GAME[2]]
-COIN = [str(GALLERY / f"coin-2-2.{ending}") for ending in ("tra", "lab")]
-DIE = [str(GALLERY / f"die-6.{ending}") for ending in ("tra", "lab")]
+COIN = [str(MODELS / f"coin-2-2.{ending}") for ending in ("tra", "lab")]
+DIE = [str(MODELS / f"die-6.{ending}") for ending in ("tra", "lab")]
 RECOVERS = 'P>=1 [ G P>=1 [ F "finished" ] ]'
 FEW, MANY, MOST, DRAWN = 10, 1000, 3000, 20
 
@@ -90,7 +86,7 @@ class Evidence(InFolder):
         os.environ["STOGAME"] = str(program())
         for module, name, instead in (
             (evidence, "second_of", second_here),
-            (loaded("dossier"), "provenance", lambda: ["sources unknown", "kit unknown"]),
+            (load("dossier"), "provenance", lambda: ["sources unknown", "kit unknown"]),
         ):
             patch = mock.patch.object(module, name, instead)
             patch.start()
@@ -137,7 +133,7 @@ class Evidence(InFolder):
 
     def forged(self, text, piece, old, new):
         """A dossier with a change in one of its files, and with hashes that fit."""
-        dossier = loaded("dossier")
+        dossier = load("dossier")
         held = dossier.pieces_filed(text.split("\n"))[piece]
         changed = held.replace(old, new, 1)
         self.assertNotEqual(held, changed)
@@ -167,7 +163,7 @@ class Evidence(InFolder):
         for formula, said in (
             ('P>0 [ F Pmax=? [ F "goal" ] ]', "solve: refused formula place 8 AskInside"),
             ('P>0 [ F P>0 [ F "gaol" ] ]', "solve: refused question line 0 UnknownLabel gaol"),
-            ('P>0 [ F<=3. "goal" ]', "formula: place 12: '3.' in place of a number of steps"),
+            ('P>0 [ F<=3. "goal" ]', "formula: place 9: '3.' in place of a number of steps"),
         ):
             with self.subTest(formula=formula):
                 self.assertEqual(call_tool("dossier", *GAME[:2], formula), (4, "", f"dossier: {said}\n"))
@@ -224,7 +220,3 @@ class Evidence(InFolder):
         self.assertIn(status, range(1, 10))
         self.assertEqual(output, "")
         self.assertTrue(errors.startswith("dossier: "), errors)
-
-
-if __name__ == "__main__":
-    unittest.main()

@@ -1,12 +1,11 @@
 """Readers of explicit files and formulas: what they give, and what they refuse with which line."""
 
-import unittest
 from collections import Counter
 from fractions import Fraction
 
-import explicit
-from endings import Refusal
-from trials import InFolder
+from toolbox import explicit
+from toolbox.formulas import asked, holds, sides_of
+from toolbox.testing import InFolder
 
 COIN = "3 3 5\n0 0 0 0.5\n0 0 1 0.25\n0 0 2 0.25\n1 0 1 1\n2 0 2 1\n"
 
@@ -65,8 +64,8 @@ FORMULAS = [
     ('Pmax=? [ F "goal" ]', (None, "Pmax", ("true",), ("label", "goal"))),
     ('P>=0.5[F"a"]', (None, ">=", ("true",), ("label", "a"))),
     ('<<p1, p2>> P<1/3 [ !"a" U "b" & "c" ]',
-     (["p1", "p2"], "<", ("!", ("label", "a")), ("&", ("label", "b"), ("label", "c")))),
-    ('<<>> Pmin=? [ F true ]', ([], "Pmin", ("true",), ("true",))),
+     (("p1", "p2"), "<", ("!", ("label", "a")), ("&", ("label", "b"), ("label", "c")))),
+    ('<<>> Pmin=? [ F true ]', ((), "Pmin", ("true",), ("true",))),
     (
         'P>0 [ F "a" | "b" & !("c" => "d" => false) ]',
         (
@@ -148,9 +147,8 @@ class Transitions(InFolder):
 
     def test_refusals(self):
         for text, line, cause in REFUSED_TRANSITIONS:
-            with self.subTest(text=text, cause=cause), self.assertRaises(Refusal) as caught:
-                self.read(text)
-            self.assertEqual((caught.exception.line, caught.exception.cause), (line, cause))
+            with self.subTest(text=text, cause=cause):
+                self.refused(line, cause, self.read, text)
 
 
 class Labels(InFolder):
@@ -166,33 +164,27 @@ class Labels(InFolder):
     def test_refusals(self):
         for text, line, cause in REFUSED_LABELS:
             with self.subTest(text):
-                name = self.write("m.lab", text)
-                with self.assertRaises(Refusal) as caught:
-                    explicit.read_labels(name, 3)
-                self.assertEqual((caught.exception.line, caught.exception.cause), (line, cause))
+                self.refused(line, cause, explicit.read_labels, self.write("m.lab", text), 3)
 
     def test_two_owners(self):
         name = self.write("m.own", '0="a" 1="b"\n1: 0\n1: 1\n')
-        with self.assertRaises(Refusal) as caught:
-            explicit.read_owners(name, 3)
-        self.assertEqual((caught.exception.line, caught.exception.cause), (3, "state 1 has a second owner"))
+        self.refused(3, "state 1 has a second owner", explicit.read_owners, name, 3)
 
 
-class Formulas(unittest.TestCase):
+class Formulas(InFolder):
     LABELS = {b"init": b"\1\0\0\0", b"a": b"\0\1\0\1", b"b": b"\0\0\1\1"}
     OWNERS = explicit.Owners([b"x", b"y"], bytes([0, 1, 0, 1]))
 
     def test_trees(self):
         for text, tree in FORMULAS:
             with self.subTest(text):
-                self.assertEqual(tuple(explicit.Parser(text).formula()), tree)
+                formula = asked(text)
+                self.assertEqual((formula.coalition, formula.bound, formula.left, formula.right), tree)
 
     def test_refusals(self):
         for text, cause in REFUSED_FORMULAS:
             with self.subTest(text):
-                with self.assertRaises(Refusal) as caught:
-                    explicit.Parser(text).formula()
-                self.assertEqual(caught.exception.cause, cause)
+                self.refused(None, cause, asked, text)
 
     def test_states(self):
         for text, states in (
@@ -205,8 +197,8 @@ class Formulas(unittest.TestCase):
             ("false", b"\0\0\0\0"),
         ):
             with self.subTest(text):
-                formula = explicit.Parser(f"Pmax=? [ F {text} ]").formula()
-                self.assertEqual(explicit.holds(formula.right, self.LABELS, 4), states)
+                formula = asked(f"Pmax=? [ F {text} ]")
+                self.assertEqual(holds(formula.right, self.LABELS, 4), states)
 
     def test_sides(self):
         for text, sides in (
@@ -222,19 +214,10 @@ class Formulas(unittest.TestCase):
             ("<<x,y>> Pmax=?", b"\1\1\1\1"),
         ):
             with self.subTest(text):
-                formula = explicit.Parser(f'{text} [ F "a" ]').formula()
-                self.assertEqual(explicit.sides_of(formula, self.OWNERS), sides)
+                formula = asked(f'{text} [ F "a" ]')
+                self.assertEqual(sides_of(formula, self.OWNERS), sides)
 
     def test_unknown_names(self):
-        formula = explicit.Parser('<<z>> Pmax=? [ F "c" ]').formula()
-        for ask, cause in (
-            (lambda: explicit.holds(formula.right, self.LABELS, 4), 'the label file has no label "c"'),
-            (lambda: explicit.sides_of(formula, self.OWNERS), "there is no player z"),
-        ):
-            with self.subTest(cause), self.assertRaises(Refusal) as caught:
-                ask()
-            self.assertEqual(caught.exception.cause, cause)
-
-
-if __name__ == "__main__":
-    unittest.main()
+        formula = asked('<<z>> Pmax=? [ F "c" ]')
+        self.refused(None, 'the label file has no label "c"', holds, formula.right, self.LABELS, 4)
+        self.refused(None, "there is no player z", sides_of, formula, self.OWNERS)

@@ -1,12 +1,8 @@
 """Models of Storm's explicit format, turned into PRISM's explicit files."""
 
-import contextlib
 import gzip
-import io
-import unittest
 
-from endings import Refusal
-from trials import SAMPLES, InFolder, load, needs_program, program, run, run_tool
+from toolbox.testing import SAMPLES, InFolder, call_tool, needs_program, run_tool
 
 DIE = {
     "out.tra": "7 11\n0 1 0.5\n0 2 0.5\n1 0 0.5\n1 3 1/2\n2 4 0.25\n2 5 2.5e-1\n2 6 0.5\n3 3 1\n4 4 1\n5 5 1\n6 6 1\n",
@@ -143,18 +139,16 @@ def line_with(text, place):
 class Documented(InFolder):
     """The samples, which were written from the documentation of the format."""
 
-    def convert(self, name, names):
+    def convert(self, name, *words):
         """What is told of a model of this text, and what was written."""
-        told = io.StringIO()
-        with contextlib.redirect_stderr(told):
-            load("from_drn").convert(name, self.folder / "out", names)
-        return told.getvalue(), {name: text for name, text in self.written().items() if name.startswith("out.")}
+        told = call_tool("from_drn", name, self.folder / "out", *words)[2]
+        return told, {name: text for name, text in self.written().items() if name.startswith("out.")}
 
     def test_texts(self):
         for name, texts in SAMPLE_TEXTS.items():
             with self.subTest(name):
                 self.setUp()
-                _, written = self.convert(SAMPLES / f"documented_{name}.drn", {})
+                _, written = self.convert(SAMPLES / f"documented_{name}.drn")
                 self.assertEqual(written, texts)
 
     def test_carriage_returns(self):
@@ -164,10 +158,10 @@ class Documented(InFolder):
                 text = sample(name).replace("\n", "\r\n").encode("ascii")
                 path = self.folder / "in.drn"
                 path.write_bytes(text)
-                self.assertEqual(self.convert(path, {})[1], texts)
+                self.assertEqual(self.convert(path)[1], texts)
 
     def test_names_of_players(self):
-        _, written = self.convert(SAMPLES / "documented_game.drn", {b"0": b"anna", b"1": b"bert"})
+        _, written = self.convert(SAMPLES / "documented_game.drn", "--names", "0=anna,1=bert")
         self.assertEqual(written["out.own"], GAME["out.own"].replace("p0", "anna").replace("p1", "bert"))
 
     def test_what_is_told(self):
@@ -176,7 +170,7 @@ class Documented(InFolder):
                 self.setUp()
                 self.assertIn(old, sample(name))
                 path = self.write("in.drn", sample(name).replace(old, new, 1).replace("@nr_choices\n5\n", ""))
-                told, written = self.convert(path, {})
+                told, written = self.convert(path)
                 out, rewards = str(self.folder / "out"), REWARDS.get(name)
                 said = [*lines.splitlines(), *([f"rewards are passed over: {rewards}"] if rewards else [])]
                 self.assertEqual(told.replace(out, "OUT"), "".join(f"from_drn: {line}\n" for line in said))
@@ -196,27 +190,22 @@ class Documented(InFolder):
                 out = self.folder / name
                 self.assertEqual(run_tool("from_drn", SAMPLES / f"documented_{name}.drn", out)[:2], (0, ""))
                 owners = ["--own", f"{out}.own"] if name in ("game", "nobody") else []
-                status, output, errors = run(program(), "check", f"{out}.tra", f"{out}.lab", formula, *owners)
-                self.assertEqual((status, errors), (0, ""), output)
-                self.assertTrue(output.startswith(line), output)
+                self.answered(line, f"{out}.tra", f"{out}.lab", formula, *owners)
 
 
 class Refused(InFolder):
     """Each fault is told with its line, and nothing is written."""
 
     def test_faults(self):
-        from_drn = load("from_drn")
         for name, old, new, place, cause in REFUSED:
             with self.subTest(new=new, cause=cause):
                 text = sample(name)
                 self.assertIn(old, text)
                 text = text.replace(old, new, 1)
                 path = self.write("bad.drn", text)
-                with self.assertRaises(Refusal) as caught:
-                    from_drn.convert(path, self.folder / "out", {})
-                self.assertIn(cause, caught.exception.cause)
-                self.assertEqual(caught.exception.line, line_with(text, place))
-                self.assertEqual(list(self.written()), ["bad.drn"])
+                status, _, errors = call_tool("from_drn", path, self.folder / "out")
+                self.assertIn(f"from_drn: {path}: line {line_with(text, place)}: {cause}", errors)
+                self.assertEqual((status, list(self.written())), (4, ["bad.drn"]))
 
     def test_status(self):
         name = self.write("bad.drn", "@type: DTMC\n@model\n")
@@ -252,7 +241,3 @@ class Refused(InFolder):
         name = self.folder / "none" / "out.tra"
         self.assertEqual(errors, f"from_drn: cannot write {name}: no such file or directory\n")
         self.assertEqual(self.written(), {})
-
-
-if __name__ == "__main__":
-    unittest.main()

@@ -1,17 +1,12 @@
 """Tests of tools/measure, over a program that is made up, and over the built one where there is one."""
 
-import stat
 import sys
 import unittest
 
-from trials import TOOLS, InFolder, load, needs_program, program, run_tool
-
-sys.path.insert(0, str(TOOLS.parent / "gallery"))
-
-import die
-import wind
-from exact import exact_values
-from question import Question
+from gallery.families import die, wind
+from toolbox.exact import exact_values
+from toolbox.model import ask
+from toolbox.testing import InFolder, load, needs_program, program, run_tool
 
 measure = load("measure")
 
@@ -29,15 +24,13 @@ case "$1" in
         echo '1 0.000000000000000 - 0 0.000000000000000 -' ;;
 esac
 """
-STALL = measure.Entry("traps", "stall-1", "gallery/stall.py 1", '<<max>> Pmax=? [ F "won" ]')
+STALL = measure.Entry("traps", "stall-1", '<<max>> Pmax=? [ F "won" ]')
 
 
 class MadeUp(InFolder):
     def setUp(self):
         super().setUp()
-        path = self.write("program", MADE_UP)
-        path.chmod(path.stat().st_mode | stat.S_IXUSR)
-        self.program = str(path)
+        self.program = self.write_command(MADE_UP)
         self.files = measure.Files(STALL, self.folder)
 
     def test_the_files_of_a_model(self):
@@ -70,7 +63,7 @@ class MadeUp(InFolder):
 
     def test_a_run_that_takes_too_long_is_given_up(self):
         run = measure.run_once(["sleep", "20"], 0.1, self.folder / "out")
-        self.assertEqual((run.status, run.is_answered(), run.width()), (None, False, None))
+        self.assertEqual((run.status, run.is_answered(), run.line), (None, False, ""))
         row = {**dict.fromkeys(measure.FIELDS["runs"], ""), "model": "m", "command": "check"}
         self.assertEqual(measure.run_cells(row), ["m", "`check`", "", "given up", "", ""])
 
@@ -110,16 +103,12 @@ class Shares(InFolder):
     def test_states_strictly_between(self):
         """The share by the program against values in fractions."""
         for module, sizes, question in (
-            (die, (6,), Question("Pmax=?", "one")),
-            (wind, (4, 1), Question("Pmax=?", "goal", coalition=("robot",))),
+            (die, (6,), ask("Pmax=?", "one")),
+            (wind, (4, 1), ask("Pmax=?", "goal", coalition=("robot",))),
         ):
             model = module.model(*sizes)
             between = sum(0 < value < 1 for value in exact_values(model, question))
-            words = f"gallery/{module.__name__}.py {' '.join(map(str, sizes))}"
-            files = measure.Files(measure.Entry("", "", words, question.formula()), self.folder)
+            name = "-".join([module.__name__.rpartition(".")[2], *map(str, sizes)])
+            files = measure.Files(measure.Entry("", name, question.formula()), self.folder)
             share = f"{between / len(model):.3f}"
             self.assertEqual(measure.model_row(files, str(program()))["between"], share)
-
-
-if __name__ == "__main__":
-    unittest.main()

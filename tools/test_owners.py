@@ -1,12 +1,6 @@
 """Owner files from what PRISM and PRISM-games export."""
 
-import contextlib
-import io
-import unittest
-from argparse import Namespace
-
-from endings import Refusal
-from trials import SAMPLES, InFolder, load, needs_program, program, run, run_tool
+from toolbox.testing import SAMPLES, InFolder, call_tool, needs_program
 
 STATES = SAMPLES / "documented_states.sta"
 PLAYERS = SAMPLES / "documented_players.pla"
@@ -23,14 +17,14 @@ OWNERS_BY_NUMBER = '0="p1" 1="p2"\n0: 0\n1: 1\n2: 0\n3: 1\n'
 
 # a text, options, and the owner file
 MADE = [
-    ("(turn,x)\n0:(1,0)\n1:(2,0)\n", {"turn": "turn"}, '0="turn1" 1="turn2"\n0: 0\n1: 1\n'),
-    ("(a,up)\n0:(0,true)\n1:(0,false)\n", {"turn": "up"}, '0="uptrue" 1="upfalse"\n0: 0\n1: 1\n'),
-    ("(turn)\n0:(1)\n1:(2)\n", {"turn": "turn", "names": {b"1": b"x", b"2": b"y"}}, '0="x" 1="y"\n0: 0\n1: 1\n'),
-    ('1="one" 2="two"\n0: 2\n1:\n2: 1\n', {}, '0="one" 1="two"\n0: 1\n1: 0\n2: 0\n'),
-    ("0:1\n1:2\n\n", {}, '0="p1" 1="p2"\n0: 0\n1: 1\n'),
-    ("1=2\n0=1\n", {}, '0="p1" 1="p2"\n0: 0\n1: 1\n'),
-    ("0 anna\n1 bert\n", {}, '0="anna" 1="bert"\n0: 0\n1: 1\n'),
-    ("2 2 2\n0 7 0 1 1\n1 8 0 0 1 a\n", {"column": True}, '0="p7" 1="p8"\n0: 0\n1: 1\n'),
+    ("(turn,x)\n0:(1,0)\n1:(2,0)\n", ["--turn", "turn"], '0="turn1" 1="turn2"\n0: 0\n1: 1\n'),
+    ("(a,up)\n0:(0,true)\n1:(0,false)\n", ["--turn", "up"], '0="uptrue" 1="upfalse"\n0: 0\n1: 1\n'),
+    ("(turn)\n0:(1)\n1:(2)\n", ["--turn", "turn", "--names", "1=x,2=y"], '0="x" 1="y"\n0: 0\n1: 1\n'),
+    ('1="one" 2="two"\n0: 2\n1:\n2: 1\n', [], '0="one" 1="two"\n0: 1\n1: 0\n2: 0\n'),
+    ("0:1\n1:2\n\n", [], '0="p1" 1="p2"\n0: 0\n1: 1\n'),
+    ("1=2\n0=1\n", [], '0="p1" 1="p2"\n0: 0\n1: 1\n'),
+    ("0 anna\n1 bert\n", [], '0="anna" 1="bert"\n0: 0\n1: 1\n'),
+    ("2 2 2\n0 7 0 1 1\n1 8 0 0 1 a\n", ["--column"], '0="p7" 1="p8"\n0: 0\n1: 1\n'),
 ]
 
 # a sample of rows, and its transitions
@@ -55,48 +49,48 @@ REFUSED_ROWS = [
 
 # a text, options, the line that is refused and the cause
 REFUSED = [
-    ("(turn,x)\n0:(1,0)\n", {}, None, "a list of states says who owns them only by a variable"),
-    ("(turn,x)\n0:(1,0)\n", {"turn": "y"}, 1, "no variable y; the variables are turn, x"),
-    ("(turn,x)\n0:(1,0)\n1:(2)\n", {"turn": "turn"}, 3, "no state with 2 values"),
-    ("(turn,x)\n0:(1,0)\n0:(2,0)\n", {"turn": "turn"}, 3, "state 0 has a second owner"),
-    ("(turn,x)\n0:(-1,0)\n", {"turn": "turn"}, 2, "'turn-1' can't name a player"),
-    ('0="a" b\n', {}, 1, "'b' is no number and name of a player"),
-    ('0="a"\n0: 1\n', {}, 2, "1 is no number of the header"),
-    ('0="a"\nzero: 0\n', {}, 2, "no state and number of a player"),
-    ("0:1\n1\n", {}, 2, "no state and player"),
-    ("2 2 2\n0:1 0 1 1\n1 0 0 1\n", {}, 3, "'1' has no player behind the state"),
-    ("2 2 2\n0 0 1 1\n", {"column": True}, 2, "no state, player, choice, state and probability"),
-    ("hello\n", {}, 1, "'hello' begins no list of states or players, and no transitions of a game"),
-    ("\n", {}, None, "nothing in it"),
+    ("(turn,x)\n0:(1,0)\n", [], None, "a list of states says who owns them only by a variable"),
+    ("(turn,x)\n0:(1,0)\n", ["--turn", "y"], 1, "no variable y; the variables are turn, x"),
+    ("(turn,x)\n0:(1,0)\n1:(2)\n", ["--turn", "turn"], 3, "no state with 2 values"),
+    ("(turn,x)\n0:(1,0)\n0:(2,0)\n", ["--turn", "turn"], 3, "state 0 has a second owner"),
+    ("(turn,x)\n0:(-1,0)\n", ["--turn", "turn"], 2, "'turn-1' can't name a player"),
+    ('0="a" b\n', [], 1, "'b' is no number and name of a player"),
+    ('0="a"\n0: 1\n', [], 2, "1 is no number of the header"),
+    ('0="a"\nzero: 0\n', [], 2, "no state and number of a player"),
+    ("0:1\n1\n", [], 2, "no state and player"),
+    ("2 2 2\n0:1 0 1 1\n1 0 0 1\n", [], 3, "'1' has no player behind the state"),
+    ("2 2 2\n0 0 1 1\n", ["--column"], 2, "no state, player, choice, state and probability"),
+    ("hello\n", [], 1, "'hello' begins no list of states or players, and no transitions of a game"),
+    ("\n", [], None, "nothing in it"),
 ]
 
 
-def words(out, *files, turn=None, names=None, column=False):
-    return Namespace(out=out, files=files, turn=turn, names=names or {}, column=column)
-
-
 class OwnerFiles(InFolder):
-    def convert(self, *files, **options):
+    def convert(self, *words):
         """What is told of the files that were not used, and what was written."""
-        told = io.StringIO()
-        with contextlib.redirect_stderr(told):
-            load("owners").convert(words(self.folder / "out", *files, **options))
-        return told.getvalue(), self.written()
+        told = call_tool("owners", self.folder / "out", *words)[2]
+        return told, self.written()
+
+    def not_used(self, told, *words):
+        """Requires that nothing is written, and that a line which begins so is told before the last one."""
+        said, written = self.convert(self.write("in", words[0]), *words[1:])
+        self.assertIn(f"owners: not used: {self.folder / 'in'}: {told}", said)
+        self.assertEqual((said.count("\n"), list(written)), (2, ["in"]))
 
     def test_texts(self):
         for text, options, owners in MADE:
             with self.subTest(text):
-                _, written = self.convert(self.write("in", text), **options)
+                _, written = self.convert(self.write("in", text), *options)
                 self.assertEqual(written["out.own"], owners)
 
     def test_samples(self):
         for sample, options, owners in (
-            (STATES, {"turn": "turn"}, OWNERS_BY_TURN),
-            (PLAYERS, {}, OWNERS_BY_NAME),
-            (GAME, {}, OWNERS_BY_NUMBER),
+            (STATES, ["--turn", "turn"], OWNERS_BY_TURN),
+            (PLAYERS, [], OWNERS_BY_NAME),
+            (GAME, [], OWNERS_BY_NUMBER),
         ):
             with self.subTest(sample.name):
-                told, written = self.convert(sample, **options)
+                told, written = self.convert(sample, *options)
                 self.assertEqual(told, "")
                 self.assertEqual(written["out.own"], owners)
                 self.assertEqual(written.get("out.tra"), PLAIN_GAME if sample is GAME else None)
@@ -116,21 +110,9 @@ class OwnerFiles(InFolder):
         self.assertEqual(told, "")
         self.assertEqual(written, {"out.tra": ROWS["documented_link_rows.tra"], "out.own": OWNERS_BY_NAME})
 
-    def test_faults_of_rows(self):
-        for text, line, cause in REFUSED_ROWS:
-            with self.subTest(text):
-                name = self.write("in", text)
-                place = name if line is None else f"{name}: line {line}"
-                with contextlib.redirect_stderr(io.StringIO()) as told, self.assertRaises(Refusal):
-                    load("owners").convert(words(self.folder / "out", name))
-                self.assertEqual(told.getvalue(), f"owners: not used: {place}: {cause}\n")
-                self.assertEqual(list(self.written()), ["in"])
-
     def test_transitions_twice(self):
-        with self.assertRaises(Refusal) as caught:
-            self.convert(GAME, SAMPLES / "documented_link_rows.tra")
-        self.assertEqual(caught.exception.cause, f"transitions, which {GAME} has already")
-        self.assertEqual(self.written(), {})
+        rows = SAMPLES / "documented_link_rows.tra"
+        self.assertEqual(self.convert(GAME, rows), (f"owners: {rows}: transitions, which {GAME} has already\n", {}))
 
     def test_the_first_that_can_be_used(self):
         told, written = self.convert(STATES, PLAYERS)
@@ -138,56 +120,43 @@ class OwnerFiles(InFolder):
         self.assertIn(f"not used: {STATES}: a list of states", told)
 
     def test_files_that_agree(self):
-        told, written = self.convert(GAME, STATES, turn="turn", names={b"1": b"p1", b"2": b"p2"})
+        told, written = self.convert(GAME, STATES, "--turn", "turn", "--names", "1=p1,2=p2")
         self.assertEqual(told, "")
         self.assertEqual(written["out.own"], OWNERS_BY_NUMBER)
 
     def test_files_that_do_not_agree(self):
         other = self.write("other", "0:1\n1:1\n")
-        with self.assertRaises(Refusal) as caught:
-            self.convert(GAME, other)
-        self.assertEqual(caught.exception.cause, f"state 1 belongs to p1, and by {GAME} to p2")
-        self.assertEqual(list(self.written()), ["other"])
+        told, written = self.convert(GAME, other)
+        self.assertEqual(told, f"owners: {other}: state 1 belongs to p1, and by {GAME} to p2\n")
+        self.assertEqual(list(written), ["other"])
 
     def test_faults(self):
-        for text, options, line, cause in REFUSED:
+        rows = ((text, [], line, f"{cause}\n") for text, line, cause in REFUSED_ROWS)
+        for text, options, line, cause in [*REFUSED, *rows]:
             with self.subTest(text):
-                name = self.write("in", text)
-                place = name if line is None else f"{name}: line {line}"
-                with contextlib.redirect_stderr(io.StringIO()) as told, self.assertRaises(Refusal):
-                    load("owners").convert(words(self.folder / "out", name, **options))
-                self.assertIn(f"owners: not used: {place}: {cause}", told.getvalue())
-                self.assertEqual(list(self.written()), ["in"])
+                self.not_used(cause if line is None else f"line {line}: {cause}", text, *options)
 
     def test_status(self):
         name = self.write("in", "hello\n")
-        status, output, errors = run_tool("owners", self.folder / "out", name)
+        status, output, errors = call_tool("owners", self.folder / "out", name)
         self.assertEqual((status, output), (4, ""))
         self.assertEqual(errors.count("\n"), 2)
         self.assertTrue(errors.endswith("no file says who owns the states; nothing is written\n"))
-        status, output, errors = run_tool("owners", "--help")
+        status, output, errors = call_tool("owners", "--help")
         self.assertEqual((status, errors), (0, ""))
         self.assertIn("owners OUT FILE", output)
-        status, _, errors = run_tool("owners", self.folder / "out", STATES, "--turn", "turn", "--names", "1=anna")
+        status, _, errors = call_tool("owners", self.folder / "out", STATES, "--turn", "turn", "--names", "1=anna")
         self.assertEqual((status, errors), (0, ""))
         self.assertEqual(self.written()["out.own"], '0="anna" 1="turn2"\n0: 0\n1: 1\n2: 0\n3: 1\n')
 
     def test_the_order_of_players_is_that_of_their_values(self):
         for names in ("1=zoe,2=al", "1=al,2=zoe", "2=a"):
-            run_tool("owners", self.folder / "out", STATES, "--turn", "turn", "--names", names)
+            call_tool("owners", self.folder / "out", STATES, "--turn", "turn", "--names", names)
             self.assertEqual(self.written()["out.own"].split("\n", 1)[1], "0: 0\n1: 1\n2: 0\n3: 1\n")
 
     @needs_program
     def test_the_program_reads_them(self):
         self.convert(GAME)
         labels = self.write("out.lab", '0="init" 1="goal"\n0: 0\n2: 1\n')
-        files = self.folder / "out.tra", labels
-        status, output, _ = run(
-            program(), "check", *files, '<<p1>> Pmax=? [ F "goal" ]', "--own", self.folder / "out.own"
-        )
-        self.assertEqual(status, 0)
-        self.assertTrue(output.startswith("state 0 lower 0.500000000000000 upper 0.500000000000000"), output)
-
-
-if __name__ == "__main__":
-    unittest.main()
+        words = [self.folder / "out.tra", labels, '<<p1>> Pmax=? [ F "goal" ]', "--own", self.folder / "out.own"]
+        self.answered("state 0 lower 0.500000000000000 upper 0.500000000000000", *words)

@@ -1,14 +1,11 @@
-"""Properties of other tools: how each is rewritten or refused, and what is written of a file of them."""
+"""Properties of other tools: how each is rewritten or refused, what is written of a file of them, and plain names."""
 
 import json
-import os
 import unittest
 
-from calls import call_tool, loaded
-from dialects import NoSpelling, Surroundings, rewritten
-from trials import SAMPLES, TOOLS, InFolder, needs_program, program
+from toolbox.dialects import NoSpelling, Surroundings, plain, renamed, rewritten
+from toolbox.testing import EXAMPLES, SAMPLES, InFolder, call_tool, load, needs_program
 
-EXAMPLES = TOOLS.parent / "examples"
 DEFINED = {"bad": 'x>1 | "a"', "a": "x=7", "round": 'x=1 & "round"', "done": "(s=7) & done"}
 CHAIN = Surroundings({"N": "5", "p": "0.9"}, ["p0"], {"a", "s_eq_7_and_done"}, True, DEFINED)
 GAME = Surroundings({}, ["p1", "anna"], {"a"}, False)
@@ -92,6 +89,44 @@ NO_FILE = [
 ]
 
 
+# a name and its plain one, by the rule
+PLAIN = [
+    (b"((s = 7) & (d = 1))", b"s_eq_7_and_d_eq_1"),
+    (b"s=7&d=1", b"s_eq_7_and_d_eq_1"),
+    (b"!(x <= 3) | (y != 2)", b"not_x_le_3_or_y_ne_2"),
+    (b"a => b <=> c", b"a_implies_b_iff_c"),
+    (b"(x < 1) & (y > 2) & (z >= 3)", b"x_lt_1_and_y_gt_2_and_z_ge_3"),
+    (b"(x + y) - (2 * z) / 3", b"x_plus_y_minus_2_times_z_over_3"),
+    (b"two  words", b"two_words"),
+    (b"wet__floor ", b"wet_floor"),
+    ("wet caf\u00e9".encode("utf-8"), b"wet_caf"),
+    (b"( )", b"unnamed"),
+    (b"x " * 200, b"_".join([b"x"] * 100)),
+]
+
+# names, and what they are renamed to, where names without a blank may stand
+RENAMED = [
+    ([b"init", b"s = 7"], [b"init", b"s_eq_7"]),
+    ([b"s = 7", b"(s = 7)", b"s  = 7"], [b"s_eq_7", b"s_eq_7_2", b"s_eq_7_3"]),
+    ([b"s = 7", b"s_eq_7"], [b"s_eq_7_2", b"s_eq_7"]),
+    ([b"s = 7", b"(s = 7)", b"s_eq_7_2"], [b"s_eq_7", b"s_eq_7_3", b"s_eq_7_2"]),
+    ([b"(s=7)"], [b"(s=7)"]),
+]
+
+
+class Names(unittest.TestCase):
+    def test_plain(self):
+        for name, wanted in PLAIN:
+            with self.subTest(name):
+                self.assertEqual(plain(name).rstrip(b"_"), wanted)
+
+    def test_renamed(self):
+        for names, wanted in RENAMED:
+            with self.subTest(names):
+                found = renamed(names, lambda name: b" " not in name)
+                self.assertEqual((list(found), list(found.values())), (names, wanted))
+
+
 class Dialects(unittest.TestCase):
     def test_rewritten(self):
         for text, formula, mark in REWRITTEN:
@@ -139,7 +174,7 @@ class Dialects(unittest.TestCase):
         )
 
     def test_worst(self):
-        worst = loaded("properties").worst
+        worst = load("properties").worst
         for statuses, status in (((), 0), ((0, 2), 2), ((0, 2, 1), 1), ((1, 4, 2), 4), ((8, 4), 8)):
             self.assertEqual(worst(statuses), status)
 
@@ -148,10 +183,6 @@ class Dialects(unittest.TestCase):
 class Files(InFolder):
     """The game of two players, whose value is 0.65 for player 1, and the coin,
     with one half and 7/16 within 3 steps."""
-
-    def setUp(self):
-        super().setUp()
-        os.environ["STOGAME"] = str(program())
 
     def ask(self, text, *more, model="two_players"):
         file, own = str(self.write("file.props", text)), EXAMPLES / f"{model}.own"
@@ -195,22 +226,12 @@ class Files(InFolder):
 
     def test_the_sample(self):
         """Names, comments, constants and variables; the rewards are refused by line, and the rest is answered."""
-        words = [*(SAMPLES / f"named_game.{ending}" for ending in ("tra", "props", "sta"))]
-        status, output, errors = call_tool(
-            "properties",
-            words[0],
-            EXAMPLES / "two_players.lab",
-            words[1],
-            "--own",
-            EXAMPLES / "two_players.own",
-            "--sta",
-            words[2],
-            "--const",
-            "K=1",
-            "--json",
-        )
+        tra, props, sta = (SAMPLES / f"named_game.{ending}" for ending in ("tra", "props", "sta"))
+        lab, own = (EXAMPLES / f"two_players.{ending}" for ending in ("lab", "own"))
+        words = [tra, lab, props, "--own", own, "--sta", sta, "--const", "K=1", "--json"]
+        status, output, errors = call_tool("properties", *words)
         made = json.loads(output)
-        self.assertEqual((status, errors), (4, f"properties: {words[1]}: line 7: rewards (R): there is none here\n"))
+        self.assertEqual((status, errors), (4, f"properties: {props}: line 7: rewards (R): there is none here\n"))
         self.assertEqual([one["line"] for one in made], [4, 5, 6, 7])
         self.assertEqual([one["name"] for one in made], ["reach", None, "soon", None])
         self.assertEqual([one["states"][0]["lower"] for one in made[:3]], ["0.650000000000000"] * 3)
@@ -272,7 +293,3 @@ class Files(InFolder):
             "line 2: x=1 compares a variable: use a label, or name the list of states by --sta",
         ]
         self.assertEqual(errors, "".join(f"properties: {self.folder / 'file.props'}: {line}\n" for line in said))
-
-
-if __name__ == "__main__":
-    unittest.main()

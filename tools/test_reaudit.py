@@ -1,17 +1,14 @@
 """The second audit: it says what `stogame audit` says of the gallery's certificates, of a thousand that were changed,
 and of models and formulas that were damaged; and of steps what `stogame check` says."""
 
-import contextlib
-import io
 import random
 import re
 import sys
-import unittest
 from functools import lru_cache
 from unittest import mock
 
-from certified_models import certified_models, certified_questions, stepped_questions
-from trials import TOOLS, InFolder, load, needs_program, program, run
+from toolbox.testing import TOOLS, InFolder, call_tool, certified_models, certified_questions, load, needs_program
+from toolbox.testing import program, run, stepped_questions
 
 CHANGED = 1000
 DAMAGED = 200
@@ -72,12 +69,7 @@ STEPPED = [
 
 
 def call(*words):
-    """Runs the tool in this process, and gives its status, output and errors."""
-    output, errors = io.StringIO(), io.StringIO()
-    asked = mock.patch.object(sys, "argv", ["reaudit", *words])
-    with asked, contextlib.redirect_stdout(output), contextlib.redirect_stderr(errors):
-        status = reaudit.main()
-    return status, output.getvalue(), errors.getvalue()
+    return call_tool("reaudit", *words)
 
 
 class Worked(InFolder):
@@ -181,7 +173,7 @@ class Worked(InFolder):
     def test_short_and_alone(self):
         lines = (TOOLS / "reaudit").read_text().splitlines()
         self.assertLessEqual(len(lines), 450)
-        others = {path.name.split(".")[0] for path in TOOLS.iterdir()} - {"reaudit"}
+        others = {"toolbox", *(path.name.split(".")[0] for path in TOOLS.iterdir())} - {"reaudit"}
         for line in lines:
             found = re.match(r"(?:from|import) (\w+)", line)
             self.assertFalse(found and found[1] in others, line)
@@ -462,7 +454,3 @@ class Alike(InFolder):
                 text = changed(draw, few[place].text.splitlines(), few[place].start)
                 accepted += " audited " in self.compare(few[place], questions[place], text)
         self.assertTrue(CHANGED / 20 < accepted < CHANGED / 2, accepted)
-
-
-if __name__ == "__main__":
-    unittest.main()

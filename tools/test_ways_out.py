@@ -4,22 +4,17 @@ valued."""
 import csv
 import io
 import json
-import os
 import re
 import sys
-import unittest
 from fractions import Fraction
 from pathlib import Path
-from types import SimpleNamespace
 
-import explicit
-from calls import call_tool
-from certified_models import certified_models, starts_of
-from choice_names import read_choice_names
-from strategies import read_strategy
-from trials import SAMPLES, TOOLS, InFolder, needs_program, program, run, run_tool
+from toolbox import explicit
+from toolbox.exact import Plain, exact_values
+from toolbox.strategies import read_choice_names, read_strategy
+from toolbox.testing import EXAMPLES, SAMPLES, TOOLS, InFolder, call_tool, certified_models, needs_program, program
+from toolbox.testing import run, run_tool
 
-EXAMPLES = TOOLS.parent / "examples"
 SCHEMA = TOOLS.parent / "docs" / "table.schema.json"
 NAMED = [str(SAMPLES / f"named_game.{ending}") for ending in ("tra", "sta")]
 GAME = [str(EXAMPLES / f"two_players.{ending}") for ending in ("lab", "own")]
@@ -90,20 +85,18 @@ REFUSED = [
      "line 6: more behind the line of the last state, 2"),
 ]
 
+# what is said of a strategy, by side
+MOST = "state 0 maximiser guarantees at least {0} and no more than {0} audited {1}\n"
+LEAST = "state 0 minimiser guarantees at most {0} and no less than {0} audited {1}\n"
+
 # a strategy, and what is said of it
 GUARANTEED = [
-    ("0:throw\n", 0,
-     "state 0 maximiser guarantees at least 0.650000000000000 and no more than 0.650000000000000 audited True\n"),
-    ("0=1\n", 0,
-     "state 0 maximiser guarantees at least 0.650000000000000 and no more than 0.650000000000000 audited True\n"),
-    ("0 pass\n", 1,
-     "state 0 maximiser guarantees at least 0.200000000000000 and no more than 0.200000000000000 audited False\n"),
-    ("(1,false):pass\n", 1,
-     "state 0 maximiser guarantees at least 0.200000000000000 and no more than 0.200000000000000 audited False\n"),
-    ("1:left\n", 0,
-     "state 0 minimiser guarantees at most 0.650000000000000 and no less than 0.650000000000000 audited True\n"),
-    ('[{"s": 0, "c": [{"index": 0, "prob": 1}]}]', 1,
-     "state 0 maximiser guarantees at least 0.200000000000000 and no more than 0.200000000000000 audited False\n"),
+    ("0:throw\n", 0, MOST.format("0.650000000000000", "True")),
+    ("0=1\n", 0, MOST.format("0.650000000000000", "True")),
+    ("0 pass\n", 1, MOST.format("0.200000000000000", "False")),
+    ("(1,false):pass\n", 1, MOST.format("0.200000000000000", "False")),
+    ("1:left\n", 0, LEAST.format("0.650000000000000", "True")),
+    ('[{"s": 0, "c": [{"index": 0, "prob": 1}]}]', 1, MOST.format("0.200000000000000", "False")),
 ]
 
 # a strategy that is refused, and why
@@ -295,10 +288,6 @@ class Small(InFolder):
 class Guarantees(InFolder):
     """What strategies for the game of two players guarantee: 0.65 by throwing, else what the other player leaves."""
 
-    def setUp(self):
-        super().setUp()
-        os.environ["STOGAME"] = str(program())
-
     def ask(self, text, *more):
         words = [NAMED[0], GAME[0], FORMULA, "--own", GAME[1], "--sta", NAMED[1]]
         return call_tool("guarantee", *words, "--strategy", self.write("mine", text), *more)
@@ -319,34 +308,20 @@ class Guarantees(InFolder):
         """One player at state 0, where it leaves for the goal or for state 1, in which it would have a choice."""
         tra = self.write("m.tra", "4 5 6\n0 0 2 1\n0 1 1 1\n1 0 2 0.5\n1 0 3 0.5\n1 1 3 1\n2 0 2 1\n")
         lab = self.write("m.lab", '0="init" 1="goal"\n0: 0\n2: 1\n')
-        for text, said in (
-            (
-                "0:0\n",
-                "state 0 maximiser guarantees at least 1.000000000000000 and no more than 1.000000000000000 audited "
-                "Bracket\n",
-            ),
-            (
-                "0:1\n1:0\n",
-                "state 0 maximiser guarantees at least 0.500000000000000 and no more than 0.500000000000000 audited "
-                "Bracket\n",
-            ),
-        ):
-            self.assertEqual(
-                call_tool("guarantee", tra, lab, 'Pmax=? [ F "goal" ]', "--strategy", self.write("mine", text)),
-                (0, said, ""),
-            )
-        name = self.write("mine", "0:1\n")
-        errors = call_tool("guarantee", tra, lab, 'Pmax=? [ F "goal" ]', "--strategy", name)[2]
+        words, name = [tra, lab, 'Pmax=? [ F "goal" ]', "--strategy"], self.folder / "mine"
+        for text, value in (("0:0\n", "1.000000000000000"), ("0:1\n1:0\n", "0.500000000000000")):
+            done = call_tool("guarantee", *words, self.write("mine", text))
+            self.assertEqual(done, (0, MOST.format(value, "Bracket"), ""))
+        errors = call_tool("guarantee", *words, self.write("mine", "0:1\n"))[2]
         self.assertEqual(errors, f"guarantee: {name}: state 1 is reached, has 2 choices, and is not named\n")
 
     def test_always(self):
         """Of G the side that wants it is the maximiser; the goals of the dual are where it fails."""
         tra = self.write("m.tra", "2 3 4\n0 0 0 1\n0 1 0 0.5\n0 1 1 0.5\n1 0 1 1\n")
         lab = self.write("m.lab", '0="init" 1="bad"\n0: 0\n1: 1\n')
-        said = "state 0 maximiser guarantees at least {0} and no more than {0} audited Bracket\n"
         for text, value in (("0:0\n", "1.000000000000000"), ("0:1\n", "0.000000000000000")):
             words = [tra, lab, 'Pmax=? [ G !"bad" ]', "--strategy", self.write("mine", text)]
-            self.assertEqual(call_tool("guarantee", *words), (0, said.format(value), ""))
+            self.assertEqual(call_tool("guarantee", *words), (0, MOST.format(value, "Bracket"), ""))
 
     def test_refusals(self):
         for text, cause in NO_STRATEGY:
@@ -384,10 +359,9 @@ class OfTheGallery(InFolder):
                     actions = call_tool("strategy", cert, *words, "--prism-actions")[1]
                     scheduler = call_tool("strategy", cert, *words, "--storm-json")[1]
                     self.assertEqual([tuple(map(int, line.split(":"))) for line in actions.splitlines()], wanted)
-                    starts = starts_of(one.words[0])
-                    objects = [(row["s"], row["c"][0]["index"] - starts[row["s"]]) for row in json.loads(scheduler)]
-                    self.assertEqual(objects, wanted)
                     model = explicit.read_transitions(one.words[0])
+                    choices = [(row["s"], row["c"][0]["index"]) for row in json.loads(scheduler)]
+                    self.assertEqual([(state, index - model.choice_start[state]) for state, index in choices], wanted)
                     names = read_choice_names(one.words[0], model)
                     for text in (actions, scheduler):
                         found = read_strategy(str(self.write("mine", text)), names)
@@ -415,8 +389,6 @@ class OfTheGallery(InFolder):
 
     def exactly_within(self, one, out):
         """The exact values of the induced model lie between the bounds at every state."""
-        from exact import exact_values
-
         values = exact_values(plain_model(out, one.model), one.question)
         for state, value in enumerate(values):
             lower, upper = (Fraction(one.entries[state][place]) for place in (1, 4))
@@ -451,26 +423,11 @@ def strategies_of(one):
 
 
 def plain_model(out, model):
-    """A model that was written, as the gallery's exact values take it."""
+    """A model that was written, with the labels and the players of another, as exact values take it."""
     made = explicit.read_transitions(f"{out}.tra")
     choices = []
     for state in range(made.states):
-        rows = [(made.weighted(choice), made.edges_of(choice)) for choice in made.choices_of(state)]
-        choices.append(
-            [
-                {made.successor[edge]: Fraction(weight, total) for weight, edge in zip(weights, edges)}
-                for (weights, total), edges in rows
-            ]
-        )
-
-    class Plain(SimpleNamespace):
-        def __len__(self):
-            return len(self.choices)
-
-        __hash__ = object.__hash__
-
-    return Plain(choices=choices, labels=model.labels, players=model.players, owners=model.owners)
-
-
-if __name__ == "__main__":
-    unittest.main()
+        weighted = [(made.edges_of(choice), *made.weighted(choice)) for choice in made.choices_of(state)]
+        rows = [(zip(weights, map(made.successor.__getitem__, edges)), total) for edges, weights, total in weighted]
+        choices.append(rows)
+    return Plain(choices, model.labels, model.players, [model.players[owner] for owner in model.owners])

@@ -7,12 +7,12 @@ from dataclasses import dataclass
 from fractions import Fraction
 
 from files import read_game, read_labels, read_owners
-from formulas import TRUE, Formula, formulas_in_order, inside, labels_in
-from grammar import read_formula
-from question import ONLY_PLAYER
+from gallery.solved import verdict_by
 from rounds import bracket, decimal
-from solved import verdict_by
-from texts import Refusal
+from texts import Refusal, read_formula
+from toolbox.exact import Plain
+from toolbox.explicit import ONLY_PLAYER
+from toolbox.formulas import TRUE, Formula, head_of, met, nodes_of
 from whole import UNIT, Asked, down, stepped, up
 
 STATUSES = {"True": 0, "Bracket": 0, "False": 1, "Undecided": 2}
@@ -27,8 +27,12 @@ class Files:
     players: list
     owners: list
 
+    def plain(self):
+        """The same as the gallery has a model."""
+        return Plain(self.game, self.labels, self.players, self.owners)
+
     def maximises(self, formula):
-        return tuple(formula.question().maximises(owner) for owner in self.owners)
+        return tuple(formula.maximises(owner) for owner in self.owners)
 
 
 def read_files(transitions, labels, owners=None):
@@ -55,7 +59,7 @@ def answer(files, formula, initial, rounds, with_traps=False):
     if formula.path == "G":
         dual = answer(files, formula.dual(), initial, rounds, with_traps)
         return Answer(mirrored(dual.upper), mirrored(dual.lower), dual.how, dual.bracket, dual.undecided)
-    (left, undecided), (right, more) = (held(files, side, rounds) for side in formula.sides())
+    (left, undecided), (right, more) = (held(files, side, rounds) for side in (formula.left, formula.right))
     asked = [question_of(files, formula, left[part], right[part]) for part in (0, 1)]
     if formula.horizon() is not None:
         found = within(formula, asked, right)
@@ -121,24 +125,16 @@ def held(files, tree, rounds):
         states = everywhere if tree == TRUE else frozenset(files.labels.get(tree[-1], ()))
         return (states, states), 0
     sets, counts = zip(*(held(files, part, rounds) for part in tree[1:]))
-    return joined(tree[0], everywhere, sets), sum(counts)
-
-
-def joined(sign, everywhere, sets):
-    (sure, possible), (more_sure, more_possible) = sets[0], sets[-1]
-    if sign == "&":
-        return sure & more_sure, possible & more_possible
-    if sign == "|":
-        return sure | more_sure, possible | more_possible
-    fails = everywhere - possible, everywhere - sure
-    return fails if sign == "!" else (fails[0] | more_sure, fails[1] | more_possible)
+    if tree[0] in ("!", "=>"):
+        sets = (tuple(reversed(sets[0])), *sets[1:])
+    return tuple(met(tree[0], everywhere, parts) for parts in zip(*sets)), sum(counts)
 
 
 def checked(files, text, rounds=10_000, plan=False, traps=False):
     """The status of `check` and what it writes: a report, or the refusal of the formula or the question."""
     formula = read_formula(text)
     initial = initial_of(files, formula)
-    count = len(inside(formula)) - 1
+    count = len(formula.inside())
     if (plan or traps) and (count or formula.horizon() is not None):
         raise Refusal("question", 0, "WrongKind")
     found = answer(files, formula, initial, rounds, traps)
@@ -161,13 +157,13 @@ def status_of(verdicts):
 
 def initial_of(files, formula):
     """The initial states; a label or a player that is unknown is refused, and so is a model without such states."""
-    for name in labels_in(formula):
+    nodes = nodes_of(formula)
+    for name in (node[1] for node in nodes if head_of(node) == "label"):
         if name not in files.labels:
             raise Refusal("question", 0, f"UnknownLabel {name}")
-    for one in formulas_in_order(formula):
-        for name in one.coalition or ():
-            if name not in files.players:
-                raise Refusal("question", 0, f"UnknownPlayer {name}")
+    for name in (name for node in nodes if isinstance(node, Formula) for name in node.coalition or ()):
+        if name not in files.players:
+            raise Refusal("question", 0, f"UnknownPlayer {name}")
     if not files.labels.get("init"):
         raise Refusal("question", 0, "NoInit")
     return sorted(files.labels["init"])

@@ -1,17 +1,11 @@
 """What `audit` has to write of a certificate, by the second audit of `tools/reaudit` over a question posed here."""
 
 import re
-import sys
-from pathlib import Path
 from types import SimpleNamespace
 
 from answers import decimal, held, initial_of, mirrored, question_of, status_of, verdict_of
-from formulas import inside
-from grammar import read_formula
-from texts import Refusal
-
-sys.path.append(str(Path(__file__).resolve().parents[2] / "tools"))
-from trials import load  # noqa: E402
+from texts import Refusal, read_formula
+from toolbox.testing import load
 
 reaudit = load("reaudit")
 
@@ -20,7 +14,7 @@ def audited(files, text, certificate):
     """The status and the lines of an audit, or the refusal of the formula, the question or the certificate."""
     formula = read_formula(text)
     initial = initial_of(files, formula)
-    if len(inside(formula)) > 1 or formula.horizon() is not None:
+    if formula.inside() or formula.horizon() is not None:
         raise Refusal("question", 0, "WrongKind")
     asked = posed(files, formula.dual() if formula.path == "G" else formula)
     try:
@@ -48,7 +42,7 @@ def refusal_of(ended):
 
 def posed(files, formula):
     """The question of a formula as the second audit has it."""
-    (left, _), (right, _) = (held(files, side, 0)[0] for side in formula.sides())
+    (left, _), (right, _) = (held(files, side, 0)[0] for side in (formula.left, formula.right))
     asked = question_of(files, formula, left, right)
     marks = ([state in states for state in asked.states()] for states in (asked.goals, asked.dead))
     goal, dead = marks

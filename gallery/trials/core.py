@@ -1,16 +1,14 @@
 """What all kinds of trials share: how the program is run, games and formulas that are drawn, and what a trial found."""
 
-import os
-import subprocess
 from collections import Counter
 from dataclasses import dataclass, field
 from fractions import Fraction
 
 from answers import read_files
-from asking import TRUTHS, bracket_of, program, verdict_of
-from formulas import TRUE, Formula
-from model import Model
-from solved import verdict_by
+from gallery.solved import faults_of_bounds
+from toolbox import programs
+from toolbox.formulas import TRUE, Formula
+from toolbox.model import Model
 
 PLAYERS, LABELS = ("a", "b"), ("one", "two")
 SIGNS, ASKED, COALITIONS = (">=", ">", "<=", "<"), ("Pmax", "Pmin"), (None, ("a",), ("b",), ("a", "b"), ())
@@ -40,11 +38,7 @@ class Found:
 
 def run(room, *words):
     """The status, the output and the errors of the program, which is run in a folder."""
-    command = [os.path.abspath(program()), *map(str, words)]
-    ended = subprocess.run(
-        command, cwd=room, capture_output=True, text=True, stdin=subprocess.DEVNULL, timeout=SECONDS, check=False
-    )
-    return ended.returncode, ended.stdout, ended.stderr
+    return programs.run(programs.program(), *words, room=room, seconds=SECONDS)
 
 
 def words_of(command, formula, *rest):
@@ -135,15 +129,5 @@ def faults_of_report(output, formula, values):
     lines = [line for line in output.splitlines() if not line.startswith("inner ")]
     if [line.split()[:2] for line in lines] != [["state", str(state)] for state in range(len(values))]:
         return [f"there is not one line for each state: {output}"]
-    return [fault for line, value in zip(lines, values) for fault in faults_of_bounds(line, formula, value)]
-
-
-def faults_of_bounds(line, formula, value):
-    """What is wrong with a line of a state that has this value."""
-    lower, upper = map(Fraction, bracket_of(line))
-    faults = [] if lower <= value <= upper else ["the value is not between the bounds"]
-    if verdict_of(line) != verdict_by(formula, lower, upper):
-        faults.append("the verdict is not that of the bounds")
-    if formula.threshold() and TRUTHS.get(verdict_of(line)) == (not formula.is_true_of(value)):
-        faults.append("the verdict is wrong")
-    return [f"{line}, value {value}: {fault}" for fault in faults]
+    told = [(line, value, faults_of_bounds(line, formula, value)) for line, value in zip(lines, values)]
+    return [f"{line}, value {value}: {fault}" for line, value, faults in told for fault in faults]

@@ -7,11 +7,9 @@ read apart from the program, and what it has to write is worked out: a refusal, 
 from answers import checked, read_files
 from audits import audited
 from core import ALL_PATHS, ENDLESS, Found, drawn_formula, drawn_game, run, words_of
-from formulas import inside
-from grammar import read_formula
-from model import states_by_mark
 from spelling import spelt_game, spelt_marks
-from texts import Refusal
+from texts import Refusal, read_formula
+from toolbox.model import states_by_mark
 
 COUNT = 500
 ROUNDS, MOST_STATES, MOST_STEPS = 2, 40, 1_000
@@ -117,7 +115,7 @@ def expected(texts, command, plan, room):
         if command == "audit":
             return audited(files, texts["formula"], room / "m.certificate")
         formula = read_formula(texts["formula"])
-        steps = max(one.horizon() or 0 for one in inside(formula))
+        steps = max(one.horizon() or 0 for one in (formula, *formula.inside()))
         if len(files.game) > MOST_STATES or steps > MOST_STEPS:
             return 0, ""
         return checked(files, texts["formula"], ROUNDS, plan)

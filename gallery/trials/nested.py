@@ -6,8 +6,7 @@ is asked by itself, too: as many pairs are undecided as these runs leave open.
 
 from answers import checked
 from core import ALL_PATHS, Found, drawn_formula, drawn_game, faults_of_report, run, words_of, written
-from exactly import values_of
-from formulas import inside
+from toolbox.exact import exact_values
 
 COUNT = 100
 DEPTH, MANY = 3, 100
@@ -17,10 +16,9 @@ def trial(draw, room):
     """One game with one formula, asked after many rounds, after few, and of the solver."""
     model = drawn_game(draw)
     found, files, formula = Found(), written(room, model), drawn_formula(draw, ALL_PATHS, DEPTH)
-    count = len(inside(formula)) - 1
-    found.counts["with formulas inside"] += count > 0
+    found.counts["with formulas inside"] += bool(formula.inside())
     for command, rounds in (("check", MANY), ("check", draw.choice((0, 1, 2))), ("solve", None)):
-        left_open = [asked(found, room, files, model, one, command, rounds)[0] for one in inside(formula)[:-1]]
+        left_open = [asked(found, room, files, model, one, command, rounds)[0] for one in formula.inside()]
         _, undecided = asked(found, room, files, model, formula, command, rounds)
         found.counts[f"undecided by {command}"] += undecided
         if undecided != sum(left_open):
@@ -38,7 +36,7 @@ def asked(found, room, files, model, formula, command, rounds):
         found.compare(words, (*checked(files, formula.formula(), rounds), ""), ran)
     else:
         found.note(words, faults_of_solved(ran, formula))
-    found.note(words, faults_of_report(ran[1], formula, values_of(model, formula)))
+    found.note(words, faults_of_report(ran[1], formula, exact_values(model, formula)))
     first = ran[1].split("\n")[0].split()
     return ran[1].count(" Undecided\n"), int(first[3]) if first[:1] == ["inner"] else 0
 
@@ -46,7 +44,7 @@ def asked(found, room, files, model, formula, command, rounds):
 def faults_of_solved(ran, formula):
     """What is wrong with the form of what `solve` wrote."""
     status, output, errors = ran
-    lines, count = output.splitlines(), len(inside(formula)) - 1
+    lines, count = output.splitlines(), len(formula.inside())
     head = [line for line in lines if not line.startswith("state ")]
     how = "solved" if formula.horizon() is None else f"steps {formula.horizon()}"
     faults = [errors] if errors or status not in (0, 1, 2) else []

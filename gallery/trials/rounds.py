@@ -3,6 +3,7 @@
 from dataclasses import dataclass
 
 from guesses import lower_guess, lowered, replies, upper_guess
+from toolbox.certificates import decimal
 from whole import UNIT, swapped, sweep, zero_states
 
 
@@ -23,10 +24,6 @@ class Bracket:
             lower, choice, rank, upper, reply = entry
             lines.append(f"{state} {decimal(lower)} {dashed(choice)} {rank} {decimal(upper)} {dashed(reply)}")
         return lines
-
-
-def decimal(value):
-    return f"{value // UNIT}.{value % UNIT:015}"
 
 
 def dashed(choice):

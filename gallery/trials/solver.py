@@ -1,11 +1,9 @@
 """`solve` over games in which play can be kept from an end: bounds, verdicts and certificates at every state."""
 
-from fractions import Fraction
-
-from asking import UNIT, asked, bracket_of, failures
 from core import Found, faults_of_report
-from drawn import drawn_game, drawn_question, stays_open
-from solved import faults_of_line, faults_of_plan
+from gallery.solved import faults_of_line, faults_of_plan
+from toolbox.drawn import drawn_game, drawn_question, stays_open
+from toolbox.programs import UNIT, asked, failures, width_of
 
 COUNT, QUESTIONS, MANY = 60, 4, 10
 
@@ -24,15 +22,20 @@ def trial(draw, room):
 
 def judged(found, room, model, question, values, *options):
     """The lines of `solve`, which are compared with the values, and their widths are counted."""
+    lines = compared(found, room, model, question, values, *options)
+    for width in (width / UNIT for width in map(width_of, lines) if width is not None):
+        found.counts["bounds"] += 1
+        found.counts["with no unit between"] += width == 0
+        found.counts[f"with more than {MANY}"] += width > MANY
+    return lines
+
+
+def compared(found, room, model, question, values, *options):
+    """The lines of `solve`, which are compared with the values."""
     run = asked("solve", room / "m", model, question, *options)
-    lines, faults = run.stdout.splitlines(), failures(run) or faults_of_report(run.stdout, question, values)
+    lines, faults = run.output.splitlines(), failures(run) or faults_of_report(run.output, question, values)
     if not faults:
         faults = [fault for line, value in zip(lines, values) for fault in faults_of_line(line, question, value)]
     found.note([question.formula()], faults)
     found.counts["runs"] += 1
-    for lower, upper in filter(None, map(bracket_of, lines)):
-        width = (Fraction(upper) - Fraction(lower)) / UNIT
-        found.counts["bounds"] += 1
-        found.counts["with no unit between"] += width == 0
-        found.counts[f"with more than {MANY}"] += width > MANY
     return lines

@@ -3,9 +3,9 @@
 from fractions import Fraction
 
 from answers import checked
-from asking import UNIT, bracket_of
 from core import STEPPED, Found, drawn_formula, drawn_game, faults_of_report, run, words_of, written
-from exactly import values_of
+from toolbox.exact import exact_values
+from toolbox.programs import UNIT, bracket_of
 
 COUNT = 150
 WORKERS = (1, 2, 3, 4, 5, 64)
@@ -16,7 +16,7 @@ def trial(draw, room):
     model = drawn_game(draw)
     found, files, formula = Found(), written(room, model), drawn_formula(draw, STEPPED)
     status, output = checked(files, formula.formula())
-    values = values_of(model, formula)
+    values = exact_values(model, formula)
     found.note([formula.formula()], faults_of_report(output, formula, values) + far_ones(output, formula, values))
     asks = [words_of("check", formula.formula(), "--workers", workers) for workers in draw.sample(WORKERS, 2)]
     for words in [*asks, words_of("solve", formula.formula())]:

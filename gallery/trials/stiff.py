@@ -8,18 +8,16 @@ plan and the best ones. A few such are left where a side has choices that nearly
 
 from fractions import Fraction
 
-import exact
-from asking import UNIT, asked, bracket_of, failures
 from core import Found
-from model import Model
-from question import Question
+from toolbox import exact
+from toolbox.model import HALF, Model, ask
+from toolbox.programs import UNIT, asked, bracket_of, failures
 
 COUNT, WIDE, CLOSE, TIMES = 60, 1_000, 2, 10
 MOST_ROUNDS, MOST_STEPS = 10_000, 200_000_000
 PLAYERS = ("p1", "p2")
 SIZES = ((1, 6), (4, 12), (4, 12), (10, 25), (20, 60))
 ORDINARY = tuple(map(Fraction, ("1/2", "1/3", "1/5", "0.3", "0.9", "0.99", "0.002")))
-HALF = Fraction(1, 2)
 
 
 def trial(draw, room):
@@ -33,8 +31,8 @@ def trial(draw, room):
     checked = asked("check", room / "m", model, question, "--workers", 1, "--rounds", rounds)
     faults = failures(solved) + failures(checked)
     if not faults:
-        lower, upper = units_of(solved.stdout)
-        faults = faults_of(lower, upper, *units_of(checked.stdout))
+        lower, upper = units_of(solved.output)
+        faults = faults_of(lower, upper, *units_of(checked.output))
         if upper - lower > WIDE:
             found.counts["wide"] += 1
             found.counts["wider than moves account for"] += is_unaccounted(upper - lower, room, model, question)
@@ -78,7 +76,7 @@ def drawn_question(draw):
     players = PLAYERS if kind == "game" else ()
     model = Model(first, rule.get, {"goal": (len(rule) - 1).__eq__}, players, owners.get)
     bound = draw.choice(("Pmax=?", "Pmin=?")) if kind == "chain" else "Pmin=?" if kind == "min" else "Pmax=?"
-    return model, Question(bound, "goal", coalition=PLAYERS[:1] if players else None)
+    return model, ask(bound, "goal", coalition=PLAYERS[:1] if players else None)
 
 
 def drawn_rule(draw, inner, has_choices):
@@ -121,7 +119,7 @@ def drawn_choice(draw, ways, chances):
 
 def turns_of(room, model, question):
     """How many moves a play is expected to make before its value is 0 or 1, by a plan of `solve`."""
-    lines = asked("solve", room / "m", model, question, "--plan").stdout.splitlines()
+    lines = asked("solve", room / "m", model, question, "--plan").output.splitlines()
     entries = [line.split() for line in lines if line[:1].isdigit()]
     uppers = [Fraction(entry[4]) for entry in entries]
     inner = [state for state, entry in enumerate(entries) if Fraction(entry[1]) < 1 and uppers[state] > 0]
@@ -131,7 +129,7 @@ def turns_of(room, model, question):
 
 def planned(model, question, state, entry, uppers):
     """The choice or the reply of a state in a certificate, or the best one by the upper table where it has none."""
-    maximises = model.owners[state] == 0 if model.players else question.bound == "Pmax=?"
+    maximises = model.owners[state] == 0 if model.players else question.bound == "Pmax"
     field, choices = entry[2] if maximises else entry[5], model.choices[state]
     if field != "-":
         return int(field)

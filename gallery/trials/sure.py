@@ -2,10 +2,8 @@
 
 from answers import initial_of
 from core import Found, drawn_formula, drawn_game, run, words_of, written
-from exactly import InFractions, values_of
-from formulas import inside
-from grammar import read_formula
-from texts import Refusal
+from texts import Refusal, read_formula
+from toolbox.exact import exact_values
 
 COUNT = 200
 PATHS = (*("F", "U") * 6, "G", "X", "F<=")
@@ -30,9 +28,9 @@ def listed(files, text):
     """The status of `sure` and what it writes, or the refusal of the formula or the question."""
     formula = read_formula(text)
     initial = initial_of(files, formula)
-    if len(inside(formula)) > 1 or formula.horizon() is not None or formula.path == "G":
+    if formula.inside() or formula.horizon() is not None or formula.path == "G":
         raise Refusal("question", 0, "WrongKind")
-    values = values_of(InFractions(files), formula)
+    values = exact_values(files.plain(), formula)
     sure = [state for state, value in enumerate(values) if value == 1]
     lines = [f"sure {len(sure)} of {len(files.game)}", *sure]
     return 0 if set(initial) <= set(sure) else 1, "".join(f"{line}\n" for line in lines)

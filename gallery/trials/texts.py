@@ -1,4 +1,4 @@
-"""Lines, fields and numbers, read as docs/FORMATS.md says them, apart from the program.
+"""Lines, fields, numbers and formulas, read as docs/FORMATS.md says them, apart from the program.
 
 A text is read as one character a byte (Latin-1), so that a place in it counts bytes.
 """
@@ -6,7 +6,10 @@ A text is read as one character a byte (Latin-1), so that a place in it counts b
 import re
 from fractions import Fraction
 
+from toolbox.formulas import Reader
+
 MOST_DIGITS, MOST_EXPONENT, FINEST, GREATEST = 30, 99, 10**23, 2
+MOST_BYTES = 4_096
 WHOLE = re.compile("[0-9]+")
 DECIMAL = re.compile(r"([0-9]+)(?:\.([0-9]*))?(?:[eE]([+-]?)([0-9]+))?")
 SHARE = re.compile("([0-9]+)/([0-9]+)")
@@ -68,3 +71,24 @@ def parts_of_decimal(whole, places, sign, exponent):
         raise NumberFault("TooManyDigits")
     power = int(sign + (exponent or "0")) - len(places)
     return int(whole + places) * 10 ** max(power, 0), 10 ** max(-power, 0)
+
+
+class FormulaReader(Reader):
+    """Reads a formula, and refuses it with the causes of the program."""
+
+    def refuse(self, cause, words):
+        raise Refusal("formula", len(self.text) if cause == "End" else self.place, cause)
+
+    def limit_of(self, token):
+        try:
+            number = number_of(token)
+        except NumberFault as fault:
+            self.refuse("ThresholdOutOfRange" if str(fault) == "TooLarge" else f"BadNumber {fault}", "")
+        return number if number <= 1 else self.refuse("ThresholdOutOfRange", "")
+
+
+def read_formula(text):
+    """The formula that a text spells."""
+    if len(text) > MOST_BYTES:
+        raise Refusal("formula", MOST_BYTES, "TooLong")
+    return FormulaReader(text).whole()

@@ -1,8 +1,8 @@
 """Hostile files of values for `solve --values`: refused as a plain reading refuses them, or else nothing is wrong."""
 
 from core import Found, run, words_of
-from drawn import drawn_game, drawn_question, drawn_values, fault_of
 from solver import judged
+from toolbox.drawn import drawn_game, drawn_question, drawn_values, fault_of
 
 COUNT = 150
 
