@@ -70,7 +70,13 @@ class Words(argparse.ArgumentParser):
     def add_forms(self, rows, write_json):
         """Options for the form of the output, which is text where none is named; `rows` gives the rows of what is told,
         for text or for CSV."""
-        text, as_csv = (lambda told: write_text(lambda: rows(told, True))), lambda told: write_csv(rows(told, False))
+
+        def text(told):
+            write_text(lambda: rows(told, True))
+
+        def as_csv(told):
+            write_csv(rows(told, False))
+
         form = self.add_mutually_exclusive_group()
         for option, write in (("csv", as_csv), ("json", write_json)):
             told = {"dest": "write", "action": "store_const", "const": write, "default": text}

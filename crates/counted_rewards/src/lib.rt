@@ -1,0 +1,9 @@
+//! Expected rewards of games that are small enough to count by hand.
+//!
+//! No function here does anything: its contract is the example.
+//!
+//! - [`counted`]: what strategies with memory and with dice are expected to collect, and tables of a game in which the
+//!   minimiser may wait for nothing.
+#![tactic(auto)]
+
+pub mod counted;

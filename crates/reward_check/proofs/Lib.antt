@@ -1,0 +1,4 @@
+pub mod Entries
+pub mod Sound
+pub mod Causes
+pub mod Order

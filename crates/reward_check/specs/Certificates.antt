@@ -1,0 +1,45 @@
+-- What a certificate of rewards says, and what it promises.
+use Rattle.std.specs.Prelude.{ℕ, ◌+◌, Bool, List, Option, slice_index}
+use Rattle.game_model.specs.Game.{Distribution, choices_below}
+use Rattle.game_model.specs.Query.{Query}
+use Rattle.expected_rewards.specs.Rewards.{Rewards}
+use Rattle.expected_rewards.specs.Promises.{AreRewardBounds}
+use Rattle.reward_check.specs.declared.tables.RewardTables.{RewardTables}
+
+-- the rewards of a list that has one for each choice, state by state, and 0 behind its end
+abbrev pub flat_rewards : List (List Distribution) → List ℕ → Rewards
+flat_rewards game flat s c = slice_index flat (choices_below game s + c)
+
+-- a question, its rewards rounded down and rounded up, and for each state: whether its lower value is a number (else it
+-- is infinite), whether its upper value is a number (else there is none), both values, the choice of the maximiser, the
+-- reply of the minimiser, and the rank
+pub record Certificate : Type 0 where
+  pub question : Query
+  pub low : Rewards
+  pub high : Rewards
+  pub finite : List Bool
+  pub bounded : List Bool
+  pub lower : ℕ → ℕ
+  pub upper : ℕ → ℕ
+  pub choices : List (Option ℕ)
+  pub replies : List (Option ℕ)
+  pub ranks : List ℕ
+
+-- what lists in memory say
+abbrev pub said : RewardTables → Certificate
+said t = record {
+  question = t.question.now;
+  low = flat_rewards t.question.now.game t.low.now;
+  high = flat_rewards t.question.now.game t.high.now;
+  finite = t.finite.now;
+  bounded = t.bounded.now;
+  lower = slice_index t.lower.now;
+  upper = slice_index t.upper.now;
+  choices = t.choices.now;
+  replies = t.replies.now;
+  ranks = t.ranks.now;
+}
+
+-- its values bound what the game is worth, by its replies and its choices
+abbrev pub IsSound : Certificate → Type 0
+IsSound c = AreRewardBounds c.question c.low c.high c.finite c.bounded c.choices c.replies c.lower c.upper

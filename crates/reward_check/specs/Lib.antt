@@ -1,0 +1,4 @@
+pub mod Certificates
+pub mod Parts
+pub mod Faults
+pub mod inside

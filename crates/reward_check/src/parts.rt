@@ -1,0 +1,14 @@
+//! The parts of a check that look at choices.
+
+/// A part of a check, in their order.
+#[derive(Clone, Copy)]
+pub enum Part {
+    /// The upper values are held by the replies.
+    Upper,
+    /// The ranks show that plays under the replies end.
+    Ranks,
+    /// The lower values are paid under the choices.
+    Lower,
+    /// The ranks show that plays under the choices miss the goals, from the states of infinite lower value.
+    Infinite,
+}

@@ -1,0 +1,25 @@
+//! The question with exchanged sides.
+
+ghost use Rattle.std.specs.Prelude.{◌≡◌, IfOk};
+ghost use Rattle.expected_rewards.specs.Turned.{turned};
+
+use game_model::Question;
+use game_outside::OutOfMemory;
+use std::alloc::Global;
+
+/// The question with exchanged sides. The only error is want of memory.
+pub fn turn<'g>(alloc: Global, question: &Question<'g>) -> Result<Question<'g>, OutOfMemory>
+    ensures { IfOk result (λ other. other ≡ turned question.now) }
+{
+    question.known();
+    let states = question.game().states();
+    let mut sides = Vec::new(alloc);
+    let mut goals = Vec::new(alloc);
+    let mut deads = Vec::new(alloc);
+    for state in 0..states {
+        sides.push(question.side(state).other())?;
+        goals.push(question.is_goal(state))?;
+        deads.push(question.is_dead(state))?;
+    }
+    Ok(Question::build(question.game(), sides, goals, deads))
+}
