@@ -23,10 +23,10 @@ from gallery.table import contents, joined, read_lines, write_lines, write_markd
 from toolbox.drawn import drawn_game, drawn_question, drawn_values, fault_of, stays_open
 from toolbox.exact import exact_values, plain_value_iteration
 from toolbox.model import CLOSED, HALF, Model, ask, spelt, sure
-from toolbox.programs import bracket_of
+from toolbox.programs import ROOT, bracket_of
 from toolbox.testing import InFolder
 
-sys.path.append(str(Path(__file__).resolve().parent / "trials"))
+sys.path.insert(0, str(ROOT / "gallery" / "trials"))
 
 import stiff
 
@@ -525,8 +525,7 @@ class Drawn(unittest.TestCase):
 
     def test_turns_of_stiff_models(self):
         """Of a loop that is left by one half, of a state before it, and of one that is never left."""
-        half = Fraction(1, 2)
-        rows = [{0: half, None: half}, {0: Fraction(1)}, {2: Fraction(1)}]
+        rows = [{0: HALF, None: HALF}, {0: Fraction(1)}, {2: Fraction(1)}]
         self.assertEqual(stiff.expected_turns(rows), [2, 3, float("inf")])
 
 
