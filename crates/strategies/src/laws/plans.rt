@@ -10,14 +10,14 @@ ghost use Rattle.game_model.specs.Limits.{unit};
 ghost use Rattle.strategies.specs.Strategies.{HoldsAgainstAll, ReachesAgainstAll, AvoidsAgainstAll, IsAvoidedAgainstAll};
 ghost use Rattle.game_model.specs.declared.game.Side.TheVariants.{Min};
 
-/// The bound to which a plan of the minimiser holds the game under it is a bound against every strategy.
+/// If a plan of the minimiser holds the game under it to a table, it holds every strategy to that table.
 pub fn plans_hold_every_strategy()
     ensures { (q : Query) (plan : List (Option ℕ)) (table : ℕ → ℕ) → IsQuery q →
         ((k s : ℕ) → s < states q → unit * numerator_under q Min plan k s ≤ table s * denominator q.game ^ k)
         → HoldsAgainstAll q plan table }
 {}
 
-/// The table that a plan of the maximiser reaches in the game under it is reached against every strategy.
+/// If a plan of the maximiser reaches a table in the game under it, it reaches that table against every strategy.
 pub fn plans_reach_against_every_strategy()
     ensures { (q : Query) (plan : List (Option ℕ)) (table : ℕ → ℕ) → IsQuery q → ReachesUnder q plan table
         → ReachesAgainstAll q plan table }
