@@ -1,2 +1,3 @@
--- What the crate's own loops and private functions speak of: no clause of a public function unfolds to it.
+-- These modules define the terms of the crate's own loops and private functions: no clause of a public function unfolds
+-- to them.
 pub mod Written
