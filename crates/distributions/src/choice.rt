@@ -27,8 +27,8 @@ pub struct Part {
 #[derive(Clone, Copy, Debug, PartialEq, Eq)]
 pub enum ChoiceFault {
     OutOfMemory,
-    /// The common denominator of the parts before, `first`, and the next denominator, `second`, have a common
-    /// denominator above 10^23.
+    /// The least common denominator passes 10^23: `first` is that of the parts before, and `second` is the denominator
+    /// with which it passes 10^23.
     TooFine { first: u128, second: u128 },
     /// The sum of the weights misses the common denominator by more than one part in 100,000.
     BadSum { sum: u128, denominator: u128 },

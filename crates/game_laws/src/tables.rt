@@ -66,7 +66,8 @@ pub fn inductive_is_high(question: &Question, table: &[u64])
     question.known();
 }
 
-/// If an entry of a low table is at least a bound a/b, the values reach the bound. If it is above, they exceed it.
+/// If an entry of a low table is at least a bound a/b, the values reach the bound. If it is above, they exceed the
+/// bound.
 pub fn low_and_bounds(question: &Question, table: &[u64])
     requires { IsLow question.now (slice_index table.now) }
     ensures reached { (a b s : ℕ) → s < states question.now → a * unit ≤ slice_index table.now s * b
@@ -77,7 +78,8 @@ pub fn low_and_bounds(question: &Question, table: &[u64])
     question.known();
 }
 
-/// If an entry of a high table is at most a bound a/b, no value exceeds the bound. If it is below, they do not reach it.
+/// If an entry of a high table is at most a bound a/b, no value exceeds the bound. If it is below, the values do not
+/// reach the bound.
 pub fn high_and_bounds(question: &Question, table: &[u64])
     requires { IsHigh question.now (slice_index table.now) }
     ensures not_exceeded { (a b s : ℕ) → s < states question.now → slice_index table.now s * b ≤ a * unit
