@@ -42,8 +42,8 @@ pub fn one_throw_is_paid()
 {}
 
 /// Waiting is worth 2 to the minimiser: the table of 2 is an upper table with the plan to try, and it is a lower table.
-/// The table of 0 is an upper table with the plan to stay, which does not end. So an upper table without an end says
-/// too little.
+/// The table of 0 is an upper table with the plan to stay, with which the play does not end. So an upper table says too
+/// little if its plan does not end the play.
 pub fn waiting_costs_two()
     ensures upper { IsUpperTable waiting trying_costs all_finite try_plan two }
     ensures lower { IsLowerTable waiting trying_costs all_finite [] two }

@@ -116,8 +116,8 @@ pub record IsUncut (line line' held held' : List ℕ) : Type 0 where
   pub grown : line' ≡ line ++ held
   pub none : held' ≡ []
 
--- A line is not complete yet: the bytes that were held and those that came are the line so far, which has no LF, and
--- the bytes that are held now.
+-- A line is not complete yet. The bytes that were held and those that came are the line so far, which has no LF, and
+-- then the bytes that are held now.
 pub record IsOnTheWay (old now : TextUnderWay) (rest rest' : Option (List ℕ)) (line : List ℕ) : Type 0 where
   pub more : List ℕ
   pub takes : Takes old now rest rest' more

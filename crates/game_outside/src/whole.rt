@@ -19,8 +19,8 @@ pub fn read_all<H: Shelf>(
     ensures bytes { IfOk result (λ v. IsHeldAs (H.held shelf.old) name.now v.items) }
     ensures within { IfOk result (λ v. length v.items ≤ limit) }
 
-    // A text that is too long is longer than the limit. It answers a fault of reading only if the shelf fails, takes at
-    // most a piece more than the limit, and changes nothing of what the shelf holds.
+    // It answers that the text is too long only if more bytes than the limit are held. It answers a fault of reading
+    // only if the shelf fails, takes at most a piece more than the limit, and changes nothing of what the shelf holds.
     ensures longer { IsErrOf result ReadEnd.TooLong → IsHeldLonger (H.held shelf.old) name.now limit }
     ensures shelf { LeavesNamed H.Shelf name.now limit shelf.old shelf.new result }
 {

@@ -18,7 +18,7 @@ pub fn stopping_brackets_close()
 {}
 
 /// However both play, with memory and dice, a play is over within k steps with at least the probability 1 less
-/// `undecided`. Whether it is over is a question too.
+/// `undecided`. Whether it is over is itself a question.
 pub fn plays_end()
     ensures posed { (q : Query) (lost : List Bool) → IsQuery q → IsQuery (ending q lost) }
     ensures over { (q : Query) (lost : List Bool) (faces k s : ℕ) (greatest least : Strategy) → IsQuery q
