@@ -1,4 +1,4 @@
-//! This module has the distribution of a choice.
+//! This module makes the distribution of a choice.
 
 ghost use Rattle.std.specs.Prelude.{◌≡◌, ◌<◌, ◌≤◌, ◌*◌, ◌/◌, ◌^◌, ◌∷◌, [], IfOk, OnOk, Ok, All, length};
 ghost use Rattle.std.specs.Option.{IfSome};

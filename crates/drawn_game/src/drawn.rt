@@ -1,4 +1,4 @@
-//! This module has the game that a seed draws, and the question about it.
+//! This module draws the game of a seed, and asks the question about it.
 
 ghost use Rattle.std.specs.Prelude.{◌≡◌, ◌≤◌, ◌==◌, map, length, IfOk};
 ghost use Rattle.std.specs.List.{range_with_len};

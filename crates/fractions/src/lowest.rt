@@ -1,4 +1,4 @@
-//! This module has fractions in lowest terms.
+//! This module puts fractions in lowest terms.
 
 ghost use Rattle.std.specs.Prelude.{◌≡◌, ◌<◌, ◌≤◌, ◌-◌, ◌*◌, ◌%◌, ◌^◌, ◌⊎◌, ◌≢◌, MatchOption};
 ghost use Rattle.std.specs.Int.{IsGcd};

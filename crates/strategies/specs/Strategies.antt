@@ -21,7 +21,7 @@ pub record Turn : Type 0 where
 abbrev pub Strategy : Type 0
 Strategy = List Turn → ℕ → ℕ → ℕ
 
--- At each state of its side the strategy takes a choice that exists, after all turns and at every throw.
+-- At each state of its side the strategy takes a choice that exists, after any turns and at any throw.
 abbrev pub IsStrategyOf : Query → Side → Strategy → Type 0
 IsStrategyOf q side strategy = (past : List Turn) (s throw : ℕ) → s < states q → side_at q s ≡ side
     → strategy past s throw < length (choices_of q.game s)

@@ -1,4 +1,4 @@
-//! This module has the first field of a line, as a number.
+//! This module reads the first field of a line as a number.
 
 ghost use Rattle.std.specs.Prelude.{◌≡◌, [], MatchOption};
 ghost use Rattle.text_lines.specs.Text.{fields_of};
@@ -28,7 +28,7 @@ pub fn first_number(line: &[u8]) -> Option<(Option<u64>, &[u8])>
     Some((whole(field), rest))
 }
 
-// Returns the number of the digits at the front, as far as it is sure to fit 64 bits, and the bytes after them.
+// Returns the number of the digits at the front, as many as are sure to fit 64 bits, and the bytes after them.
 fn short_digits(text: &[u8]) -> (u64, &[u8])
     ensures { AreDigitsBefore text.now result.0 result.1.now }
 {

@@ -1,4 +1,4 @@
-//! This module has the first line of a text.
+//! This module cuts the first line off a text.
 
 ghost use Rattle.std.specs.Prelude.{◌≡◌, ◌<◌, ◌∷◌, [], ◌++◌, ℕ, List, None, length, take, IfSome, MatchOption};
 ghost use Rattle.text_lines.specs.Text.{lines_of, is_nil, significant};
