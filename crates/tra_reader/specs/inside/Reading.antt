@@ -39,7 +39,7 @@ RowAnswer header read line number (Ok (transition, action)) = (read < header.lin
 RowAnswer header read line number (Err fault) = (rows : List Row) → length rows ≡ read
     → HasFault header line rows number fault
 
--- A game or a fault of the text is what is said, or memory ran out. Any other fault says nothing of the text.
+-- The answer is the game or the fault that is said, or memory ran out, or its fault says nothing of the text.
 abbrev pub IsAnswer : {Fault : Type 0} → (Fault → Option TraFault) → Result (List (List Distribution)) Fault
     → Result (List (List Distribution)) TraFault → Type 0
 IsAnswer fault_of (Ok game) said = said ≡ Ok game
