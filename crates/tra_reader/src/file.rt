@@ -33,8 +33,8 @@ pub fn read_tra_from<H: Shelf>(
     ensures reads { ReadsFile (λ text answer. game_of text ≡ answer) (H.held shelf.old) name.now limit result }
     ensures caused { RefusesCaused (λ fault. is_out_of_memory fault.cause) result }
 
-    // It fails only where the shelf fails, takes little more than the limit, and changes nothing of what the shelf
-    // holds.
+    // A read fault comes only from the shelf. The call takes little more than the limit, and changes nothing of what
+    // the shelf holds.
     ensures shelf { LeavesShelf H.Shelf name.now limit shelf.old shelf.new result }
 {
     match in_order(read_in_order(alloc, shelf, name, limit)) {
