@@ -103,9 +103,8 @@ inner_bound ts = next ts >>= λ token.
     else if is token (codes "Pmax") || is token (codes "Pmin") then fails token AskInside
     else fails token Unexpected
 
--- path = "F" [ "<=" number ] state | state "U" [ "<=" number ] state | "X" state | "G" state
---
--- Here state reads a state formula.
+-- path = "F" [ "<=" number ] state | state "U" [ "<=" number ] state | "X" state | "G" state, where `state` reads a
+-- state formula
 
 -- A whole number is a number of steps if it is not too great.
 abbrev pub steps_of : Token → Option ℕ → Result ℕ FormulaFault
@@ -132,7 +131,8 @@ right_side state kind left ts = state ts >>= λ right. Ok (record { kind = kind;
 abbrev pub reached : Reading State → State → Reading Path
 reached state left ts = deadline ts >>= λ kind. right_side state kind.0 left kind.1
 
--- This reads what is asked of a path, and its two sides with `state`. The left side of `F`, `X` and `G` is `true`.
+-- This reads what is asked of a path, and its two sides, which `state` reads. The left side of `F`, `X` and `G` is
+-- `true`.
 abbrev pub path : Reading State → Reading Path
 path state ts = next ts >>= λ token.
     if is token (codes "F") then reached state True token.after
@@ -226,7 +226,7 @@ abbrev pub inside_of : Inside → Token → Result (State × Tokens) FormulaFaul
 inside_of inside token = if is token (codes "!") then negated (unary inside token.after) else closed
     (implied (unary inside) token.after)
 
--- Opening signs lead to this if so many more `!`, `(` and `[` may be open at once.
+-- Opening signs lead to this if this many more `!`, `(` and `[` may be open at once.
 unfoldable pub nested : ℕ → Inside
 nested zero = record { state = λ token. fails token TooDeep; path = λ token. fails token TooDeep }
 nested (suc room) = record { state = inside_of (nested room); path = bracketed (implied (unary (nested room))) }

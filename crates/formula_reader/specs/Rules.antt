@@ -70,7 +70,7 @@ pub record IsSteps (token : List ℕ) (k : ℕ) : Type 0 where
 abbrev pub formula_of : List (List ℕ) → List (List ℕ) → List (List ℕ) → List (List ℕ)
 formula_of team asks sides = team ++ (asks ++ codes "[" ∷ (sides ++ codes "]" ∷ []))
 
--- Tokens spell these state formulas and paths, if at most `room` `(`, `!` and `[` are open at once in them.
+-- Tokens spell these state formulas and paths. At most `room` signs `(`, `!` and `[` are open at once in them.
 mutual
   -- state = either | state "=>" either
   pub data IsState : ℕ → List (List ℕ) → State → Type 0 where

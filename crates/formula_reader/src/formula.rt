@@ -1,4 +1,4 @@
-//! This module has formulas as values.
+//! This module defines formulas as values.
 
 ghost use Rattle.std.specs.Prelude.{◌≡◌};
 

@@ -1,4 +1,4 @@
-//! This module has the operators of state formulas, from the one that binds weakest, and what their operands are.
+//! This module makes state formulas by their operators, which are listed from the one that binds weakest.
 
 ghost use Rattle.std.specs.Prelude.{◌≡◌, MatchResult, option_map};
 ghost use Rattle.formula_tokens.specs.Fault.{IsOutOfMemory};
@@ -57,7 +57,7 @@ pub fn negation(alloc: Global, state: StateFormula) -> Result<StateFormula, Form
     Ok(StateFormula::Not(state))
 }
 
-/// Makes a state formula of the parts of a formula, which holds at the states where that is true.
+/// Makes a state formula of the parts of a formula: it holds at the states where the formula is true.
 pub fn inner(
     alloc: Global,
     coalition: Option<Names>,

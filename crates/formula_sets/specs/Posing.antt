@@ -68,7 +68,8 @@ pub record BeginsAt (l : Labelling) (o : Ownership) (f : Tree) (initial : List �
   pub starts : initial ≡ states_with l init
   pub some : initial ≢ []
 
--- Whatever the path is, the question is about this game, has the formula's sides, and begins at these states.
+-- Whatever the path is, the question is about this game, gives each state the side that chooses there, and begins at
+-- these states.
 pub record IsSetUp (game : List (List Distribution)) (l : Labelling) (o : Ownership) (f : Tree) (question : Query)
     (initial : List ℕ) : Type 0 where
   pub begins : BeginsAt l o f initial
@@ -104,7 +105,7 @@ pub record PosesNext (game : List (List Distribution)) (l : Labelling) (o : Owne
 abbrev pub at_states : {X : Type 0} → (ℕ → X) → ℕ → List X
 at_states value n = map value (range_with_len 0 n)
 
--- This is the question about the game with the formula's sides, and these goals and dead states.
+-- This is the question about the game, with the side that chooses at each state, and these goals and dead states.
 abbrev pub question_with : List (List Distribution) → Ownership → Tree → List Bool → List Bool → Query
 question_with game o f goals deads = record {
   game = game;

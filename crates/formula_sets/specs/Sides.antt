@@ -53,6 +53,6 @@ players_in (Or x y) = players_in x ++ players_in y
 players_in (Implies x y) = players_in x ++ players_in y
 players_in (Inner team bound kind left right) = members_of team ++ (players_in left ++ players_in right)
 
--- This is the first of these names that no player has.
+-- This is the first of these players that is unknown.
 abbrev pub unknown_player : Ownership → List (List ℕ) → Option (List ℕ)
 unknown_player owners names = find (λ name. not (is_player owners name)) names

@@ -25,6 +25,6 @@ labels_in (Or x y) = labels_in x ++ labels_in y
 labels_in (Implies x y) = labels_in x ++ labels_in y
 labels_in (Inner team bound kind left right) = labels_in left ++ labels_in right
 
--- This is the first of these names that no label has.
+-- This is the first of these labels that is unknown.
 abbrev pub unknown_label : Labelling → List (List ℕ) → Option (List ℕ)
 unknown_label l names = find (λ name. not (is_known l name)) names

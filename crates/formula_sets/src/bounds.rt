@@ -1,4 +1,4 @@
-//! A bound gives sides.
+//! This module gives the sides that a bound leads to.
 
 ghost use Rattle.std.specs.Prelude.{◌≡◌};
 ghost use Rattle.formula_sets.specs.Sides.{coalition_side, common_side};

@@ -5,7 +5,7 @@ ghost use Rattle.std.specs.Prelude.{◌≡◌, ◌⊎◌};
 use game_outside::Name;
 use std::alloc::Global;
 
-/// A formula poses no question because memory ran out, or for the first of these reasons.
+/// A formula poses no question because memory ran out, or for the first reason in this order.
 #[derive(Drop)]
 pub enum PoseFault {
     OutOfMemory,

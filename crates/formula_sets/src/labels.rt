@@ -1,4 +1,4 @@
-//! This module finds where state formulas hold, and which labels they name.
+//! This module finds where state formulas hold, and which of their labels are unknown.
 
 ghost use Rattle.std.specs.Prelude.{◌≡◌, IfOk, option_copied};
 ghost use Rattle.label_lines.specs.Labels.{holds_at};
@@ -80,7 +80,7 @@ pub fn marks_of(
     }
 }
 
-// Gives the first name in a state formula that no label has.
+// Gives the first unknown label that a state formula names.
 #[tactic(auto, using(crate::proofs::Finding::first_unknown_of))]
 fn first_unknown<'a>(labels: &Labels, formula: &'a StateFormula) -> Option<&'a Name>
     ensures { option_copied result ≡ unknown_label labels.now (labels_in (state_of formula.now)) }
@@ -104,7 +104,7 @@ fn first_unknown<'a>(labels: &Labels, formula: &'a StateFormula) -> Option<&'a N
     }
 }
 
-/// Gives the first name in a formula that no label has.
+/// Gives the first unknown label that a formula names.
 #[tactic(auto, using(crate::proofs::Finding::first_unknown_of))]
 pub fn unknown_label_of<'a>(labels: &Labels, formula: &'a Formula) -> Option<&'a Name>
     ensures { option_copied result ≡ unknown_label labels.now (formula_labels (tree_of formula.now)) }

@@ -40,7 +40,7 @@ pub fn side_at_state(owners: &Owners, coalition: &Option<Names>, bound: &Bound, 
     }
 }
 
-// Gives the first of these names that no player has.
+// Gives the first of these players that is unknown.
 fn first_stranger<'a>(owners: &Owners, names: &'a [Name]) -> Option<&'a Name>
     ensures { option_copied result ≡ unknown_player owners.now names.now }
 {
@@ -52,7 +52,7 @@ fn first_stranger<'a>(owners: &Owners, names: &'a [Name]) -> Option<&'a Name>
     None
 }
 
-// Gives the first name of a coalition that no player has.
+// Gives the first unknown player of a coalition.
 fn first_stranger_of<'a>(owners: &Owners, coalition: &'a Option<Names>) -> Option<&'a Name>
     ensures { option_copied result ≡ unknown_player owners.now (members_of (option_map names_of coalition.now)) }
 {
@@ -62,7 +62,7 @@ fn first_stranger_of<'a>(owners: &Owners, coalition: &'a Option<Names>) -> Optio
     }
 }
 
-// Gives the first name of a player in a state formula that no player has.
+// Gives the first unknown player that a state formula names.
 #[tactic(auto, using(crate::proofs::Finding::first_stranger_of))]
 fn first_stranger_in<'a>(owners: &Owners, formula: &'a StateFormula) -> Option<&'a Name>
     ensures { option_copied result ≡ unknown_player owners.now (players_in (state_of formula.now)) }
@@ -79,7 +79,7 @@ fn first_stranger_in<'a>(owners: &Owners, formula: &'a StateFormula) -> Option<&
     }
 }
 
-/// Gives the first name of a player in a formula that no player has.
+/// Gives the first unknown player that a formula names.
 #[tactic(auto, using(crate::proofs::Finding::first_stranger_of))]
 pub fn unknown_player_of<'a>(owners: &Owners, formula: &'a Formula) -> Option<&'a Name>
     ensures { option_copied result ≡ unknown_player owners.now (formula_players (tree_of formula.now)) }

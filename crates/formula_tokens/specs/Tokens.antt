@@ -85,7 +85,8 @@ front_from b bytes =
 
 -- These definitions are about the tokens of a text.
 
--- Tokens go on, each with the place of its first byte, up to the end of the text or to bytes that form none.
+-- Tokens come one after another, each with the place of its first byte, up to the end of the text or to bytes that form
+-- none.
 pub data Tokens : Type 0 where
   Finish : (place : ℕ) → Tokens
   Broken : (fault : FormulaFault) → Tokens

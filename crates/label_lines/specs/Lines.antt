@@ -23,7 +23,7 @@ is_number field = is_some (number_of field)
 abbrev pub number_in : List ℕ → ℕ
 number_in field = unwrap_or (number_of field) 0
 
--- This is the number of the fields, if they are one number and no more.
+-- This is the number that the fields spell, if there is just one field.
 abbrev pub only_number : List (List ℕ) → Option ℕ
 only_number (field ∷ []) = number_of field
 only_number fields = None
@@ -59,7 +59,7 @@ abbrev pub all_same : List ℕ → Bool
 all_same [] = true
 all_same (number ∷ numbers) = list_all (λ other. other == number) numbers
 
--- These are the lines with one more at the end. In an owner file no state has two owners.
+-- These are the lines with one more at the end, or the fault that a state of an owner file has two owners.
 abbrev pub with_line : FileKind → List StateLine → StateLine → Result (List StateLine) LabCause
 with_line LabelFile before line = Ok (before ++ line ∷ [])
 with_line OwnerFile before line = if all_same (said_of (before ++ line ∷ []) line.state) then Ok

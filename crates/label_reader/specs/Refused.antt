@@ -1,4 +1,4 @@
--- A text is not refused because memory ran out.
+-- That memory ran out is no refusal of a text.
 use Rattle.std.specs.Prelude.{◌≡◌, Bool, true, false, Result, Ok, Err}
 use Rattle.game_outside.specs.declared.file.FileEnd.{FileEnd}
 use Rattle.game_outside.specs.declared.file.FileEnd.TheVariants as file

@@ -78,7 +78,7 @@ fn read_from<H: Shelf, B: BehindHeader>(
     without_want(read_lines_from(alloc, shelf, name, limit, reader))
 }
 
-// A text is not refused because memory ran out: that is an end of its own.
+// That memory ran out is no refusal of the text, but an end of its own.
 fn without_want<T>(read: Result<T, FileEnd<LabFault>>) -> Result<T, FileEnd<LabFault>>
     ensures { IsWithoutWant read result }
 {

@@ -5,7 +5,7 @@ ghost use Rattle.std.specs.Prelude.{◌≡◌, ◌<◌, ◌≤◌, ◌^◌, Bool
 use std::alloc::{AllocError, Global};
 use std::marker::Model;
 
-/// A set of states, which contracts see as the list of their marks, takes a byte a mark.
+/// Contracts see a set of states as the list of its marks. A mark takes a byte.
 #[derive(Drop)]
 pub struct StateSet {
     marks: Vec<bool>,

@@ -1,4 +1,4 @@
--- The dual of a formula says the same of the paths that come to a state where the right side fails.
+-- The dual of a formula with `G` says the same by the paths that come to a state where the right side fails.
 use Rattle.std.specs.Prelude.{ℕ, ◌*◌, ◌<◌, ◌≤◌}
 use Rattle.fractions.specs.Fraction.{rest_of}
 use Rattle.formula_reader.specs.declared.formula.Bound.{Bound}
@@ -25,7 +25,7 @@ IsMetBy (Below p) n whole = n * p.den < p.num * whole
 IsMetBy AskMax n whole = Unit {0}
 IsMetBy AskMin n whole = Unit {0}
 
--- A probability meets a bound exactly if 1 minus that probability meets this bound.
+-- A probability meets a bound exactly if 1 minus the probability meets this dual bound.
 abbrev pub dual_bound : Bound → Bound
 dual_bound (AtLeast p) = AtMost (rest_of p)
 dual_bound (Above p) = Below (rest_of p)

@@ -30,7 +30,7 @@ impl FirstActions {
     ghost use Rattle.transition_lines.specs.Answers.{clashes_at, row_place};
     ghost use Rattle.tra_reader.specs.inside.Noted.{noted, silent_rows, Notes};
 
-    /// Starts without an action.
+    /// Starts with no action.
     pub fn new(alloc: Global) -> FirstActions
         ensures { Notes result [] }
     {

@@ -1,4 +1,5 @@
-//! The readers of transition lines share the header's line, the rows behind it, and the end of the text.
+//! This module reads what the readers of transition lines share: the header's line, the rows behind it, and the end of
+//! the text.
 
 ghost use Rattle.std.specs.Prelude.{◌≡◌, ◌≢◌, ◌≤◌, ◌<◌, IfOk, MatchResult, [], if◌then◌else◌};
 ghost use Rattle.text_lines.specs.Text.{fields_of};

@@ -89,7 +89,7 @@ fn in_order(read: Result<Game, FileEnd<Halt>>) -> Option<Result<Game, FileEnd<Tr
     }
 }
 
-// A text is not refused because memory ran out: that is an end of its own.
+// That memory ran out is no refusal of the text, but an end of its own.
 fn without_want(read: Result<Game, FileEnd<TraFault>>) -> Result<Game, FileEnd<TraFault>>
     ensures { result ≡ without_want_of read }
 {

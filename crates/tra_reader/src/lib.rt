@@ -9,10 +9,10 @@
 //!
 //! `read_tra` gives the game that a text denotes, or the text's first fault with its line: the faults of the header,
 //! then those of the lines in their order, then those of the whole text. A text whose lines come in the order of their
-//! choices is read in one pass, and only the lines of one choice are kept beside the game. Any other text is read again
-//! from its start. That takes 48 bytes a line and the sort's own room. If a line has an action, it takes one entry a
-//! choice and the first action of each choice as well. `read_tra_from` reads a file on a shelf, a piece at a time, and
-//! gives the same answer in whatever pieces it comes.
+//! choices is read in one pass, and of its lines only those of one choice are kept beside the game. Any other text is
+//! read again from its start, which takes 48 bytes of memory a line and the sort's own room. If a line has an action,
+//! one entry a choice and the first action of each choice are kept as well. `read_tra_from` reads a file on a shelf, a
+//! piece at a time, and gives the same answer in whatever pieces it comes.
 #![tactic(auto)]
 
 mod actions;

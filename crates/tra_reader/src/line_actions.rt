@@ -18,7 +18,7 @@ pub struct LineActions {
 }
 
 impl LineActions {
-    /// Starts without a line.
+    /// Starts before the first line.
     pub fn new(alloc: Global) -> LineActions
         ensures { NotesLines result [] }
     {

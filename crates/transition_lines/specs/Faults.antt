@@ -18,7 +18,8 @@ fault_of_all cause = fault_at 0 cause
 abbrev pub IsOutOfMemory : TraFault → Type 0
 IsOutOfMemory fault = fault ≡ fault_of_all OutOfMemory
 
--- This is the fault of a choice, which belongs to the whole text. It may be that memory ran out.
+-- This is the fault of a choice, which belongs to the whole text. If memory ran out for the choice, it ran out for the
+-- whole text.
 abbrev pub fault_of_choice : ℕ → ℕ → ChoiceFault → TraFault
 fault_of_choice s k NoMemory = fault_of_all OutOfMemory
 fault_of_choice s k (TooFine first second) = fault_of_all (Choice s k (TooFine first second))

@@ -13,8 +13,8 @@ pub enum ValuesCause {
     LineCount,
 }
 
-/// A fault of a file of values has a line and a cause. Lines count from 1, with blank ones. Line 0 says that the fault
-/// belongs to no single line.
+/// A fault of a file of values has a line and a cause. Lines count from 1, and blank ones count. Line 0 says that the
+/// fault belongs to no single line.
 #[derive(Clone, Copy, Debug, PartialEq, Eq)]
 pub struct ValuesFault {
     /// This is the number of the line.
@@ -23,7 +23,7 @@ pub struct ValuesFault {
     pub cause: ValuesCause,
 }
 
-/// Reading a file of values ends like this if it gives none.
+/// Reading a file of values ends like this if it gives no values.
 #[derive(Clone, Copy, Debug, PartialEq, Eq)]
 pub enum ValuesEnd {
     /// Memory ran out.

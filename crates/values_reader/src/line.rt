@@ -53,7 +53,7 @@ fn only_state(bytes: &[u8]) -> Option<u64>
     whole(unbracketed(field))
 }
 
-// Says whether the last field ends in a bracket, if `first` is the field before `rest`.
+// Says whether the last field ends in `)`. `first` is the field before `rest`.
 fn closed(first: &[u8], rest: &[u8]) -> bool
     ensures { result ≡ is_closed (first.now ∷ fields_of rest.now) }
 {

@@ -1,4 +1,4 @@
--- This is about what is read of a path.
+-- This definition is about what is read of a path.
 use Rattle.formula_tokens.specs.declared.cursor.Cursor.{Cursor}
 use Rattle.formula_reader.specs.declared.formula.StateFormula.{StateFormula}
 use Rattle.formula_reader.specs.declared.formula.PathKind.{PathKind}

@@ -93,7 +93,7 @@ pub record AreWholeBefore (n : ℕ) (transitions : List Transition) (place : ℕ
   pub none : NoneBetween transitions (place_behind whole) place
   pub within : All (IsWithin n) transitions
 
--- 2. These are the steps.
+-- 2. These definitions are about steps.
 
 -- The step makes choice k of state s, which has these parts, whole.
 abbrev pub EndsChoice : List Part → ℕ → ℕ → Progress → Progress → Type 0
@@ -184,7 +184,7 @@ IsAsStated stated read None = (game : Result (List (List Distribution)) TraFault
 IsAsStated stated read (Some fault) = (game : Result (List (List Distribution)) TraFault)
     → if_as_stated stated read game ≡ Err fault
 
--- 3. This is the game.
+-- 3. These definitions are about the game.
 
 -- A contract sees this of a game under way: the number of states, the whole choices, and the parts of the choice under
 -- way.
@@ -221,7 +221,7 @@ pub record HoldsInOrder (game : Growing) (n : ℕ) (transitions : List Transitio
   pub choice_in : game.whole.choice < most_stated_choices
   pub whole : IsWhole n transitions game.whole
 
--- The game holds some transitions, or none.
+-- The game holds a list of transitions, which may be empty.
 pub record HoldsSome (game : Growing) : Type 0 where
   pub n : ℕ
   pub transitions : List Transition

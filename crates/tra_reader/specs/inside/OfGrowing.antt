@@ -6,6 +6,6 @@ use Rattle.tra_reader.specs.inside.GrowingGames.{Growing, HoldsSome}
 abbrev pub growing_of : Inside → Growing
 growing_of g = record { states = g.states; whole = g.whole; parts = g.parts.items }
 
--- The game holds some transitions, or none.
+-- The game holds a list of transitions, which may be empty.
 abbrev pub IsGrowing : Inside → Type 0
 IsGrowing g = HoldsSome (growing_of g)
