@@ -23,7 +23,7 @@ pub enum StateFormula {
     Or(Box<StateFormula>, Box<StateFormula>),
     /// `x => y`
     Implies(Box<StateFormula>, Box<StateFormula>),
-    /// The formula holds at the states where a formula is true, as `P>=0.5 [ F "goal" ]`.
+    /// A formula inside holds at the states where it is true, as `P>=0.5 [ F "goal" ]`.
     Inner(Box<Formula>),
 }
 

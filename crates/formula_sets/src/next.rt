@@ -1,4 +1,4 @@
-//! A formula with `X` poses a question.
+//! This module poses the question of a formula with `X`.
 
 ghost use Rattle.std.specs.Prelude.{◌≡◌, ◌<◌, ◌≤◌, All, IfOk, false, if◌then◌else◌, length, slice_index_or};
 ghost use Rattle.game_model.specs.Limits.{unit};
@@ -17,7 +17,7 @@ use game_model::{Game, Question, UNIT};
 use label_reader::{Labels, Owners};
 use std::alloc::{AllocError, Global};
 
-/// A posed question of one step has states without marks, and the initial states of its game in rising order.
+/// Holds a question of one step, whose states have no marks, and the initial states of its game in rising order.
 #[derive(Drop)]
 pub struct PosedNext<'g> {
     pub question: Question<'g>,

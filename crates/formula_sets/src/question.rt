@@ -1,4 +1,4 @@
-//! A formula poses a question.
+//! This module poses the question of a formula.
 
 ghost use Rattle.std.specs.Prelude.{◌≡◌, ◌<◌, All, IfOk, length};
 ghost use Rattle.game_model.specs.Query.{states};
@@ -18,7 +18,7 @@ use game_model::{Game, Question, Side};
 use label_reader::{Labels, Owners};
 use std::alloc::{AllocError, Global};
 
-/// A posed question has the initial states of its game in rising order.
+/// Holds a question, and the initial states of its game in rising order.
 #[derive(Drop)]
 pub struct Posed<'g> {
     pub question: Question<'g>,

@@ -3,7 +3,7 @@ use Rattle.std.specs.Prelude.{◌≡◌, ◌+◌, ℕ, Bool, false, List, [], �
 use Rattle.std.specs.Prelude.{All}
 use Rattle.std.specs.List.{list_any}
 
--- A label has a name, and a mark that says for each state whether it holds.
+-- A label has a name, and a mark for each state, which says whether it holds there.
 pub record Label : Type 0 where
   pub name : List ℕ
   pub marks : List Bool

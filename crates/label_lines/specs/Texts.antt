@@ -21,7 +21,7 @@ abbrev pub then_at : {X Y : Type 0} → ℕ → Result X LabCause → (X → Res
 then_at number (Ok x) next = next x
 then_at number (Err cause) next = Err (fault_at number cause)
 
--- These are the lines before these, and these, the first of which has this number, or the first fault.
+-- These are the lines before and those of this list, the first of which has this number, or the first fault.
 abbrev pub lines_from : FileKind → ℕ → List Item → List StateLine → ℕ → List (List ℕ) → Result (List StateLine) LabFault
 lines_from kind n items before number [] = Ok before
 lines_from kind n items before number (line ∷ lines) =

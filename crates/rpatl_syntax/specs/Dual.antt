@@ -1,4 +1,4 @@
--- The dual of a formula with `G` says the same by the paths that come to a state where the right side fails.
+-- The dual of a formula with `G` says the same about the other paths, which come to a state where the right side fails.
 use Rattle.std.specs.Prelude.{ℕ, ◌*◌, ◌<◌, ◌≤◌}
 use Rattle.fractions.specs.Fraction.{rest_of}
 use Rattle.formula_reader.specs.declared.formula.Bound.{Bound}

@@ -38,7 +38,7 @@ HasShare (Below p) = IsShare p
 HasShare AskMax = Unit {0}
 HasShare AskMin = Unit {0}
 
--- A formula inside compares with a threshold.
+-- The bound of a formula inside compares with such a threshold.
 abbrev pub HasThreshold : Bound → Type 0
 HasThreshold (AtLeast p) = IsShare p
 HasThreshold (Above p) = IsShare p
@@ -71,7 +71,7 @@ HasParts (Or x y) = HasParts x × HasParts y
 HasParts (Implies x y) = HasParts x × HasParts y
 HasParts (Inner team bound kind left right) = HasHead team bound kind left × HasParts left × HasParts right
 
--- In a place for formulas that bind at least this tightly, a formula needs one more if it takes brackets.
+-- In a place for formulas that bind at least this tightly, a formula that takes brackets needs one more open sign.
 abbrev pub need_in : ℕ → State → ℕ → ℕ
 need_in least x inner = if nat_lt (strength_of x) least then inner + 1 else inner
 

@@ -35,8 +35,8 @@ pub record IsHeader (line : List ℕ) (header : Header) : Type 0 where
   pub bounded : ForSome header.choices (λ c. c ≤ most_stated_choices)
   pub short : header.lines ≤ most_lines
 
--- The parts of a line are whole numbers if its fields spell them, the probability, and the action. An action is a
--- field, or no byte if there is none.
+-- The parts of a line are three whole numbers, each only if its field spells one, the probability, and the action. An
+-- action is a field, or no byte if there is none.
 pub record LineParts : Type 0 where
   pub source : Option ℕ
   pub choice : Option ℕ
