@@ -14,8 +14,8 @@ use game_outside::OutOfMemory;
 use predecessors::Predecessors;
 use std::alloc::Global;
 
-/// If more than one in so many states is a member that is still in the order, each other state is tested instead. So
-/// there are at most as many passes over all states.
+/// If more than one in this many states is a member that is still in the order, each other state is tested instead. So
+/// there are at most this many passes over all states.
 const SHARE: usize = 16;
 
 /// Gives the attractor of the goals, with chance on the maximiser's side, from the predecessors in the question's game.

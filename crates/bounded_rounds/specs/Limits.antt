@@ -1,4 +1,4 @@
--- A sweep has limits. The constants of the code are equal to them: `laws::limits`.
+-- These are the limits of a sweep. The constants of the code are equal to them: `laws::limits`.
 use Rattle.std.specs.Prelude.{ℕ}
 
 -- A sweep has at most this many steps.

@@ -1,9 +1,9 @@
--- Rounded steps can start from any opening table.
+-- These are rounded steps from any opening table.
 use Rattle.std.specs.Prelude.{◌≡◌, ℕ, zero, suc, ◌<◌, List, length, slice_index}
 use Rattle.game_model.specs.Query.{Query, states}
 use Rattle.game_model.specs.Rounded.{down_step, up_step}
 
--- This is the table after so many steps, one after another.
+-- This is the table after k steps, one after another.
 unfoldable pub steps_from : ((ℕ → ℕ) → ℕ → ℕ) → (ℕ → ℕ) → ℕ → ℕ → ℕ
 steps_from step opening zero s = opening s
 steps_from step opening (suc k) s = step (steps_from step opening k) s

@@ -1,4 +1,3 @@
--- Only the crate's own loops and private functions use these definitions: no clause of a public function unfolds to
--- one.
+-- The crate's own loops and private functions use these definitions: no clause of a public function unfolds to them.
 pub mod Parts
 pub mod OfTables

@@ -11,10 +11,10 @@ use fixed_bellman::{Bounds, step_bounds};
 use game_model::UNIT;
 use game_outside::Gate;
 
-/// So many states are stepped between two looks ahead.
+/// This many states are stepped between two looks ahead.
 const STRETCH: usize = 64;
 
-/// The table of so many states stays near the processor. With more states, it pays to look ahead.
+/// The table of this many states stays near the processor. With more states, it pays to look ahead.
 const MOST_NEAR: u32 = 131_072;
 
 /// Takes the steps at the states in a row from `first` on, by one worker, who passes the gate before each state. If it

@@ -17,7 +17,7 @@ use std::alloc::{AllocError, Global};
 use std::mem;
 use std::thread::Threads;
 
-/// One more worker is worth its thread for each so many edges.
+/// This many edges make one more worker worth its thread.
 const EDGES_FOR_A_WORKER: u64 = 50_000;
 
 /// A sweep is a lower and an upper table, in units, by state.
@@ -29,7 +29,7 @@ pub struct Sweep {
     pub upper: Vec<u64>,
 }
 
-/// Gives the tables after exactly so many steps from an opening table: down steps for the lower one, up steps for the
+/// Gives the tables after exactly `steps` steps from an opening table: down steps for the lower one, up steps for the
 /// upper one. They are the same for every number of workers and every schedule. With no steps both are the opening
 /// table. The only error is want of memory.
 ///
@@ -114,7 +114,7 @@ fn iterate<R: Threads + Sync, G: Gate + Sync>(
     table
 }
 
-/// Fills the next table, by so many workers. Says whether one of its entries is not the same as before.
+/// Fills the next table by `workers` workers. Says whether one of its entries is not the same as before.
 fn step<R: Threads + Sync, G: Gate + Sync>(
     rt: &R,
     question: &Question,
@@ -134,7 +134,7 @@ fn step<R: Threads + Sync, G: Gate + Sync>(
     step_chunks(rt, tables, gate, size, 0, next)
 }
 
-/// Says how many workers a step after the first has: one, and one more for each so many edges.
+/// Says how many workers a step after the first has: one, and one more for each `EDGES_FOR_A_WORKER` edges.
 fn busy_workers(question: &Question, workers: u32) -> u32
     requires { 1 ≤ workers }
     ensures some { 1 ≤ result }

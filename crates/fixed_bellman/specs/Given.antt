@@ -1,5 +1,5 @@
--- A choice gives a value over a table of units. The step of a state can be taken over values that rise while they are
--- read.
+-- These definitions say what a choice gives over a table of units, and what the step of a state is over values that may
+-- rise while they are read.
 use Rattle.std.specs.Prelude.{◌≡◌, ℕ, ◌<◌, ◌≤◌, false, length}
 use Rattle.game_model.specs.declared.game.Side.TheVariants.{Max, Min}
 use Rattle.game_model.specs.Game.{choices_of, choice_of}

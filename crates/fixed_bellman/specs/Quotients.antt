@@ -1,14 +1,14 @@
--- A quotient is rounded down or up.
+-- These definitions say what a quotient is, rounded down and up.
 use Rattle.std.specs.Prelude.{◌≡◌, ℕ, ◌+◌, ◌-◌, ◌/◌, ◌≤◌}
 use Rattle.game_model.specs.Game.{Distribution}
 use Rattle.game_model.specs.Values.{weighted_sum}
 use Rattle.fixed_bellman.specs.declared.quotient.Quotient.{Quotient}
 
--- The value of a choice in whole units is rounded toward zero.
+-- This is the value of a choice in whole units, rounded toward zero.
 abbrev pub rounded_down : Quotient → ℕ
 rounded_down q = q.sum / q.total
 
--- The value of a choice in whole units is rounded away from zero.
+-- This is the value of a choice in whole units, rounded away from zero.
 abbrev pub rounded_up : Quotient → ℕ
 rounded_up q = (q.sum + (q.total - 1)) / q.total
 

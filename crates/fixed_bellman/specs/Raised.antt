@@ -1,4 +1,4 @@
--- The down step of a state can be above its entry.
+-- This definition says that the down step of a state is above its entry.
 use Rattle.std.specs.Prelude.{◌≡◌, ℕ, ◌<◌, ◌≤◌}
 use Rattle.game_model.specs.Query.{Query}
 use Rattle.game_model.specs.Limits.{unit}

@@ -1,4 +1,4 @@
--- Weighted sums can be taken over values that rise while they are read.
+-- These are weighted sums over values that may rise while they are read.
 use Rattle.std.specs.Prelude.{ℕ, ◌*◌, ◌≤◌, List, [], ◌∷◌, sum_by, slice_index}
 use Rattle.game_model.specs.declared.game.Edge.{Edge}
 use Rattle.game_model.specs.Limits.{unit}

@@ -1,4 +1,4 @@
--- An upper table can have a fault.
+-- These definitions say what is wrong with an upper table.
 use Rattle.std.specs.Prelude.{◌≡◌, ℕ, ◌<◌, ◌≤◌, true, List, slice_index, All}
 use Rattle.game_model.specs.declared.game.Side.TheVariants.{Max, Min}
 use Rattle.game_model.specs.Query.{Query, states, is_goal, side_at}

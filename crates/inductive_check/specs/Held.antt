@@ -1,4 +1,4 @@
--- An upper table holds some choices of a state to its entry.
+-- These definitions say which choices of a state an upper table holds to its entry.
 use Rattle.std.specs.Prelude.{ℕ, ◌*◌, ◌<◌, ◌≤◌, length}
 use Rattle.game_model.specs.Game.{Distribution, choices_of, choice_of}
 use Rattle.game_model.specs.Query.{Query}

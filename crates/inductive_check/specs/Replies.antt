@@ -1,4 +1,4 @@
--- Replies of the minimiser hold every opponent to a table.
+-- These definitions say what replies of the minimiser are, and what they hold every opponent to.
 use Rattle.std.specs.Prelude.{◌≡◌, ℕ, ◌*◌, ◌^◌, ◌<◌, ◌≤◌, true, List, length, slice_index_or, Option, None, IsSomeAnd}
 use Rattle.game_model.specs.declared.game.Side.TheVariants.{Max, Min}
 use Rattle.game_model.specs.Game.{choices_of}

@@ -1,4 +1,4 @@
--- A race is under way, and leaves words at its end.
+-- These definitions say what holds during a race, and what it leaves.
 use Rattle.std.specs.Prelude.{◌≡◌, ℕ, ◌*◌, ◌≤◌, List}
 use Rattle.game_model.specs.Query.{Query, states}
 use Rattle.game_model.specs.Rounded.{down_steps, IsBelow, IsSettled}

@@ -18,7 +18,7 @@ use std::alloc::Global;
 use std::thread::Threads;
 use value_words::{Pass, Posing, ValueTable, Words};
 
-/// One more worker is worth its thread for each so many edges.
+/// This many edges make one more worker worth its thread.
 const EDGES_FOR_A_WORKER: u64 = 50_000;
 
 /// A runner has the shared words of a question, the pass that has seen them, and the states to update. Each other state
@@ -55,7 +55,8 @@ pub fn open<'q, P: Posing>(
     })
 }
 
-/// Makes one round of at most so many workers, and says whether a value changed. If none did, what was read is settled.
+/// Makes one round of at most `workers` workers, and says whether a value changed. If none did, what was read is
+/// settled.
 pub fn one_round<'q, R: Threads + Sync, P: Posing + Send + Sync, G: Gate + Sync>(
     rt: &R,
     predecessors: &Predecessors,
@@ -148,9 +149,9 @@ fn sweep<R: Threads + Sync, P: Posing + Send + Sync, G: Gate + Sync>(
     (pass, changed)
 }
 
-/// Says how many workers a round after the first has: one, and one more for each so many edges of the states that are
-/// updated. About as many states are updated as edges lead to a changed state, and they have about as many edges as
-/// others.
+/// Says how many workers a round after the first has: one, and one more for each `EDGES_FOR_A_WORKER` edges of the
+/// states that are updated. About as many states are updated as edges lead to a changed state, and they have about as
+/// many edges as others.
 pub fn busy_workers(question: &Question<'_>, workers: u32, changed: u32) -> u32
     requires { 1 ≤ workers }
     ensures some { 1 ≤ result }

@@ -1,3 +1,2 @@
--- Only the crate's own loops and private functions use these definitions: no clause of a public function unfolds to
--- one.
+-- The crate's own loops and private functions use these definitions: no clause of a public function unfolds to them.
 pub mod Sorting

@@ -1,4 +1,4 @@
--- The states of a round are shared out, and each part of it leaves something.
+-- These definitions say how the states of a round are shared out, and what a part of it leaves.
 use Rattle.std.specs.Prelude.{◌≡◌, ℕ, ◌+◌, ◌*◌, ◌/◌, ◌<◌, ◌≤◌, Bool, List, length}
 use Rattle.game_model.specs.Game.{Distribution, edges_below}
 use Rattle.game_model.specs.Query.{Query}
@@ -11,7 +11,7 @@ use Rattle.predecessors.specs.Marks.{IsMarked}
 abbrev pub most_workers : ℕ
 most_workers = 64
 
--- This is the worker of a state, out of so many: it depends on how many of all edges are below the state.
+-- This is the worker of a state, out of `workers`: it depends on how many of all edges are below the state.
 abbrev pub worker_of : List (List Distribution) → ℕ → ℕ → ℕ
 worker_of game workers s = edges_below game s * workers / edges_below game (length game)
 
@@ -22,9 +22,9 @@ pub record BeginsBlock (game : List (List Distribution)) (workers worker first :
   pub before : (s : ℕ) → s < first → worker_of game workers s < worker
   pub behind : (s : ℕ) → first ≤ s → s < length game → worker ≤ worker_of game workers s
 
--- This is left by so many workers after the states from `low` up to and not including `high`. Each marked state is seen
--- with at least the down step of what was seen before. So many exchanges were won, no more than there are states. The
--- pass has all its parts again, if it had one for each worker.
+-- The workers have taken the states from `low` up to and not including `high`. Each marked state is seen with at least
+-- the down step of what was seen before. The exchanges that were won are no more than these states. The pass has all
+-- its parts again, if it had one for each worker.
 pub record IsSwept (q : Query) (marks : List Bool) (workers low high : ℕ) (old new : PassSeat)
     (raises : ℕ) : Type 0 where
   pub grew : GrewSeat old new

@@ -8,7 +8,7 @@ ghost use Rattle.round_workers.specs.Marks.{HasMark, IsNextMark};
 
 use predecessors::Predecessors;
 
-/// So many marks in a row are looked at together.
+/// This many marks in a row are looked at together.
 pub const STRETCH: u32 = 64;
 
 /// Says whether there is a mark from one place up to and not including another.

@@ -8,8 +8,8 @@ use game_model::Game;
 /// A round has at most this many workers.
 pub const MOST_WORKERS: u32 = 64;
 
-/// Gives the worker of a state out of so many workers: the edges of the states below it times the workers, over all
-/// edges, rounded down.
+/// Gives the worker of a state out of `workers`: the edges of the states below it times the workers, over all edges,
+/// rounded down.
 pub fn worker_of(game: &Game, workers: u32, state: u32) -> u32
     requires few { workers ≤ most_workers }
     requires state { state < length game.now }

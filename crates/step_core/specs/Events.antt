@@ -1,4 +1,4 @@
--- Some events are lawful and have an effect. The others are refused for a reason.
+-- These definitions say which events are lawful, what they do, and why others are refused.
 use Rattle.std.specs.Prelude.{◌≡◌, ◌≢◌, ℕ, ◌<◌, Bool, not, ◌||◌, ◌==◌, List, [], ◌∷◌, ◌++◌, length, slice_index}
 use Rattle.std.specs.Prelude.{slice_set, Option, Some, None, IsSome, is_none, Result, Ok, Err, ◌⊎◌, if◌then◌else◌}
 use Rattle.std.specs.Prelude.{nat_lt, nat_le}

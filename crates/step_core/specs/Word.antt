@@ -28,7 +28,7 @@ value_at words s = value_in (slice_index words s)
 abbrev pub values_of : List ℕ → List ℕ
 values_of words = map value_in words
 
--- For each state the choice that its word names is a plan of the maximiser.
+-- This plan of the maximiser takes at each state the choice that its word names.
 abbrev pub picks_of : List ℕ → List (Option ℕ)
 picks_of words = map (λ word. Some (choice_in word)) words
 

@@ -64,7 +64,7 @@ impl Guesses<'_> {
         Ok(None)
     }
 
-    /// Gives the table after so many up steps, from one that was made, if any, after no more steps.
+    /// Gives the table after `steps` up steps, from one that was made, if any, after no more steps.
     fn table_after<M: UpTables>(
         &self,
         maker: &M,

@@ -38,7 +38,7 @@ impl Guesses<'_> {
         entry < raised
     }
 
-    /// Gives the entry at a state after so many up steps, if the budget suffices.
+    /// Gives the entry at a state after `steps` up steps, if the budget suffices.
     #[cycle(local)]
     fn entry(&self, steps: u32, state: u32, budget: &mut u32) -> Option<u64>
         requires { state < states self.now.question.now }

@@ -8,10 +8,10 @@ ghost use Rattle.upper_guess.specs.Parts.{IsFilled};
 use fixed_bellman::up_state;
 use game_model::{Question, UNIT};
 
-/// So many states are stepped between two looks ahead.
+/// This many states are stepped between two looks ahead.
 const STRETCH: usize = 64;
 
-/// The table of so many states stays near the processor. With more states, it pays to look ahead.
+/// The table of this many states stays near the processor. With more states, it pays to look ahead.
 const MOST_NEAR: u32 = 262_144;
 
 /// Fills a part of the next table with the up steps of the states in a row from `first` on.

@@ -1,4 +1,4 @@
--- The words follow a rule, and each step tells its pass something.
+-- These definitions are the rule of the words, and what each step tells its pass.
 use Rattle.std.specs.Prelude.{◌≡◌, ◌≢◌, ◌⊎◌, ℕ, ◌+◌, ◌-◌, ◌/◌, ◌<◌, ◌≤◌, true, false, List, [], slice_index, slice_set}
 use Rattle.std.specs.Prelude.{if◌then◌else◌, nat_lt}
 use Rattle.std.specs.List.{sum_by}

@@ -1,4 +1,4 @@
--- Each step has an effect on a table.
+-- These definitions say what each step makes of a table.
 use Rattle.std.specs.Prelude.{◌≡◌, ℕ, ◌<◌, List, [], ◌∷◌, ◌++◌, slice_index, slice_set}
 use Rattle.game_model.specs.Query.{Query, states}
 use Rattle.step_core.specs.Word.{value_in, choice_in, value_at}

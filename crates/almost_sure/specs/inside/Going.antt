@@ -8,7 +8,7 @@ abbrev pub how_many : List Bool → ℕ
 how_many marks = count_by (λ b. b) marks
 
 -- These states are gone, and the dead ones are among them. Their values stay away from 1, by one over the denominator
--- to the power of how many they are.
+-- to the power of their number.
 pub record IsGone (q : Query) (marks : List Bool) : Type 0 where
   pub many : length marks ≡ states q
   pub deads : (s : ℕ) → s < states q → is_dead q s ≡ true → slice_index_or marks s false ≡ true

@@ -9,6 +9,6 @@ use Rattle.bounded_rounds.specs.inside.Parts.{IsStepped}
 abbrev pub IsPartFrom : Tables → ℕ → List Bounds → Type 0
 IsPartFrom tables first part = first + length part ≤ states tables.question.now
 
--- The part has the steps of so many states.
+-- The part has the steps of `count` states.
 abbrev pub IsStepOf : Tables → ℕ → ℕ → List Bounds → Bool → Type 0
 IsStepOf tables first count part changed = IsStepped tables.question.now tables.table.now first count part changed

@@ -15,14 +15,14 @@ pub record IsBoundsTable (q : Query) (table : List Bounds) : Type 0 where
   pub many : length table ≡ states q
   pub units : All AreUnits table
 
--- The first entries of a part are the steps of so many states in a row from this one on, in units. If nothing changed
+-- The first entries of a part are the steps of `count` states in a row from `first` on, in units. If nothing changed
 -- they are also the entries of the table.
 pub record IsStretch (step table : ℕ → ℕ) (first count : ℕ) (part : List ℕ) (changed : Bool) : Type 0 where
   pub values : (k : ℕ) → k < count → slice_index part k ≡ step (first + k)
   pub units : (k : ℕ) → k < count → slice_index part k ≤ unit
   pub same : changed ≡ false → (k : ℕ) → k < count → slice_index part k ≡ table (first + k)
 
--- The part has the steps of both bounds at so many states in a row from this one on.
+-- The part has the steps of both bounds at `count` states in a row from `first` on.
 pub record IsStepped (q : Query) (table : List Bounds) (first count : ℕ) (next : List Bounds)
     (changed : Bool) : Type 0 where
   pub down : IsStretch (down_step q (slice_index (lowers table))) (slice_index (lowers table)) first count

@@ -14,7 +14,7 @@ use Rattle.upper_guess.specs.declared.guesses.Guesses.{Guesses}
 abbrev pub first_entry_of : Guesses → ℕ → ℕ
 first_entry_of g s = first_guess g.question.now g.zero.now (slice_index g.lower.now) g.excess s
 
--- This is the entry of a state after so many up steps.
+-- This is the entry of a state after `steps` up steps.
 abbrev pub entry_of : Guesses → ℕ → ℕ → ℕ
 entry_of g steps s = guess_table g.question.now g.zero.now (slice_index g.lower.now) g.excess steps s
 
@@ -30,11 +30,11 @@ best_of g steps s = optimum (side_at g.question.now s) (up_value (entry_of g ste
 abbrev pub IsSumOf : Guesses → ℕ → Distribution → ℕ → Type 0
 IsSumOf g steps choice sum = IsSumBetween choice.edges (entry_of g steps) (entry_of g steps) sum
 
--- This is the table after so many up steps.
+-- This is the table after `steps` up steps.
 abbrev pub IsTableOf : Guesses → ℕ → List ℕ → Type 0
 IsTableOf g steps table = IsTable g.question.now (entry_of g steps) table
 
--- The table after so many up steps is refused.
+-- The table after `steps` up steps is refused.
 abbrev pub IsRefusedOf : Guesses → ℕ → Type 0
 IsRefusedOf g steps = IsRefused g.question.now (entry_of g steps)
 
