@@ -25,8 +25,8 @@ pub record IsNext (q : Query) (opening : ℕ → ℕ) (holds : ℕ → Bool) : T
   pub deads : (s : ℕ) → s < states q → is_dead q s ≡ false
   pub opens : (s : ℕ) → s < states q → opening s ≡ (if holds s then unit else 0)
 
--- The value counts parts of a unit, of which `parts` are one. It lies between two numbers of units, and is at most
--- `margin` units from each.
+-- The value counts parts of a unit, and `parts` parts are one unit. It lies between two numbers of units, and is at
+-- most `margin` units from each.
 pub record IsBracketed (margin parts lower upper value : ℕ) : Type 0 where
   pub low : lower * parts ≤ value
   pub high : value ≤ upper * parts

@@ -20,7 +20,7 @@ pub record IsGivenBy (q : Query) (table : ℕ → ℕ) (s value choice : ℕ) : 
       → value ≤ down_value table (choice_of q.game s c))
 
 -- The value is at least the floor, and at least the step over what was seen before. If it is above the floor, the
--- choice gives it over what was seen after. No earlier choice gave it over what was seen before. At the floor the
+-- choice gives it over what was seen after. Each earlier choice gave less over what was seen before. At the floor the
 -- choice is 0.
 pub record IsStepAbove (q : Query) (old new : ℕ → ℕ) (s floor value choice : ℕ) : Type 0 where
   pub units : value ≤ unit

@@ -86,8 +86,8 @@ fn take_marks(agenda: &mut Agenda)
     agenda.whole = false;
 }
 
-/// Reads the states that were updated, and says how many values changed. These states have the second mark then, and no
-/// other state has a mark.
+/// Reads the states that were updated, and says how many values changed. The states that changed have the second mark
+/// then, and no state has another mark.
 pub fn read_again<P: Posing>(
     table: &ValueTable<'_, P>,
     pass: &mut Pass<P>,
@@ -106,7 +106,8 @@ pub fn read_again<P: Posing>(
     read_marked(table, pass, agenda)
 }
 
-/// Reads the states with a second mark, and says how many values changed. These states keep it, and the others lose it.
+/// Reads the states with a second mark, and says how many values changed. The states that changed keep it, and the
+/// others lose it.
 fn read_marked<P: Posing>(table: &ValueTable<'_, P>, pass: &mut Pass<P>, agenda: &mut Agenda) -> u32
     requires pass { IsOf table.now pass.old }
     requires sized { IsSized P.posed agenda.old }

@@ -17,7 +17,7 @@ use value_words::{Pass, Posing, ValueTable};
 pub struct Task<'r, P: Posing, G: Gate> {
     /// These are the words.
     pub table: &'r ValueTable<'r, P>,
-    /// A worker that raises a state marks its predecessors.
+    /// These are the predecessors of each state, which a worker marks when it raises the state.
     pub predecessors: &'r Predecessors,
     /// The states with a mark are updated.
     pub marks: &'r [bool],

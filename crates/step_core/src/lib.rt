@@ -3,8 +3,8 @@
 //!
 //! A word of a state holds a lower bound of its value, in units, and the choice that gave it. A view is what one worker
 //! has seen of the words. [`World::start`] opens a world, and [`World::apply`] takes one event or refuses it.
-//! `specs/Sound.antt` and `specs/Configuration.antt` say what holds for every world, after every list of events: it is
-//! the transition system of the words that threads share. This crate runs no threads.
+//! `specs/Sound.antt` and `specs/Configuration.antt` say what holds for every world, after every list of events. Worlds
+//! and events are the transition system of the words that threads share. This crate runs no threads.
 #![tactic(auto)]
 
 mod event;

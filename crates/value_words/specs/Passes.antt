@@ -33,7 +33,7 @@ parts_of pass = pass.seat.me.0.parts
 abbrev pub PassSeat : Type 0
 PassSeat = Seat (Unit {0}) Sight
 
--- No choice before the one that the word of a state names gives its value over what was seen.
+-- Each choice before the one that the word of a state names gives less than its value over what was seen.
 abbrev pub NamesFirst : Query → (ℕ → ℕ) → ℕ → ℕ → Type 0
 NamesFirst q seen s word = (c : ℕ) → c < choice_in word → down_value seen (choice_of q.game s c) < value_in word
 

@@ -10,7 +10,7 @@ pub record IsCrew (game : List (List Distribution)) (crew : Crew) : Type 0 where
   pub begins : BeginsBlock game crew.workers crew.first crew.low
   pub ends : BeginsBlock game crew.workers crew.last crew.high
 
--- Two crews, one after the other, have half of the workers each.
+-- Two crews, one after the other, have about half of the workers each.
 pub record AreHalves (game : List (List Distribution)) (crew front back : Crew) : Type 0 where
   pub front_crew : IsCrew game front
   pub back_crew : IsCrew game back
