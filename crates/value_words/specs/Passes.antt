@@ -52,6 +52,6 @@ pub record LookedSeat (old new : PassSeat) : Type 0 where
 abbrev pub Looked : {P : Type 0} {h : _} → Pass P h → Pass P h → Type 0
 Looked old new = LookedSeat old.seat new.seat
 
--- the pass is of the same table, and has seen no less anywhere
+-- The pass is of the same table, and has seen no less anywhere.
 abbrev pub Grew : {P : Type 0} {h : _} → Pass P h → Pass P h → Type 0
 Grew old new = GrewSeat old.seat new.seat
