@@ -1,4 +1,4 @@
-//! Laws of brackets: how near rounded steps and sweeps are to exact values.
+//! These laws say how near rounded steps and sweeps are to exact values.
 
 ghost use Rattle.std.specs.Prelude.{ℕ, ◌*◌, ◌^◌, ◌<◌, List, Bool, slice_index};
 ghost use Rattle.game_model.specs.Query.{Query, IsQuery, states};
@@ -15,7 +15,7 @@ pub fn rounded_steps_bracket_exact_values()
         IsBracketed k (denominator q.game ^ k) (down_from q table k s) (up_from q table k s) (exact_from q table k s) }
 {}
 
-/// A sweep of k steps from the opening table of iteration brackets the k-step values, within k units.
+/// A sweep of k steps from the opening table of iteration brackets the values of k steps, within k units.
 pub fn bounded_values_are_bracketed()
     ensures { (q : Query) (k : ℕ) (lower upper : List ℕ) → IsQuery q → IsSweep q (opening q) k lower upper →
         (s : ℕ) → s < states q → IsBracketed k (denominator q.game ^ k) (slice_index lower s) (slice_index upper s)
@@ -23,7 +23,7 @@ pub fn bounded_values_are_bracketed()
 {}
 
 /// Without goals and dead states, a sweep of one step from the unit at some states and 0 elsewhere brackets the
-/// probability that one of those is next, within one unit.
+/// probability that one of those states is next, within one unit.
 pub fn next_values_are_bracketed()
     ensures { (q : Query) (table : ℕ → ℕ) (holds : ℕ → Bool) (lower upper : List ℕ) → IsQuery q → IsNext q table holds
         → IsSweep q table 1 lower upper →
