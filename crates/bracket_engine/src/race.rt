@@ -1,4 +1,4 @@
-//! Two races at once: rounds on the words of a question, and on those of the swapped one.
+//! Two races run in turn: rounds on the words of a question, and on those of the swapped question.
 
 ghost use Rattle.std.specs.Prelude.{◌≡◌, IfOk};
 ghost use Rattle.game_model.specs.Dual.{IsZeroSet};
@@ -23,11 +23,11 @@ pub struct Raced {
     pub words: Words,
     /// The words of the swapped question.
     pub swapped_words: Words,
-    /// How many rounds were completed on each.
+    /// So many rounds were completed on each.
     pub rounds: u32,
-    /// Whether the last one changed nothing on either.
+    /// This says whether the last round changed nothing on either.
     pub quiet: bool,
-    /// The guess that settled the threshold, where one did.
+    /// This is the guess that settled the threshold, if one did.
     pub kept: Option<SettlingGuess>,
 }
 
@@ -41,8 +41,9 @@ pub struct Racers<'q, 's, P: Posing, C: Posing> {
     pub kept: Option<SettlingGuess>,
 }
 
-/// Makes rounds on the words of both questions. They end before the most where one changed nothing on either: then the
-/// words of both are settled; or where a guess settles the threshold at each initial state.
+/// Makes rounds on the words of both questions. They end after the most rounds, or after a round that changed nothing
+/// on either, which shows that the words of both are settled, or when a guess settles the threshold at each initial
+/// state.
 pub fn race<
     R: Threads + Sync,
     P: Posing + Send + Sync,
@@ -72,7 +73,7 @@ pub fn race<
     })
 }
 
-// Rounds on both until one changes nothing on either or the threshold is settled.
+// Makes rounds on both until one changes nothing on either, or the threshold is settled, or the most rounds are made.
 fn run_rounds<
     'q,
     's,

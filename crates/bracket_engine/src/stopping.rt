@@ -1,4 +1,4 @@
-//! What may end a run before its rounds.
+//! A guess may end a run before the asked rounds.
 
 ghost use Rattle.std.specs.Prelude.{◌≡◌, ◌≤◌, ◌<◌, length, All};
 ghost use Rattle.game_model.specs.Query.{IsQuery, states};
@@ -15,7 +15,7 @@ use std::thread::Threads;
 use upper_guess::{Witnesses, guess_with};
 use verdicts::StopRule;
 
-/// The guess that ended a run, and the lower bounds that it is over.
+/// The guess that ended a run, and the lower bounds that it was made over.
 #[derive(Drop)]
 pub struct SettlingGuess {
     /// The lower bounds, by state.
@@ -45,9 +45,10 @@ impl<F: Fn(u64, u64) -> bool> Ending<'_, F> {
     ghost use Rattle.verdicts.specs.Stop.{bound_of, IsStopRule};
     ghost use Rattle.bracket_engine.specs.Stop.{AreSettledAt, upper_from, IsSettlingGuess};
 
-    /// The guess over lower bounds, after 1, 2, 4, 8 and so on rounds, where with the swapped values it settles the
-    /// threshold at each initial state; there is one after such a round where the values alone settle it. None is made
-    /// where the bound asks for a value, since no rule could use it. The team fills its tables.
+    /// After 1, 2, 4, 8 and so on rounds, gives the guess over the lower bounds if the guess and the swapped values
+    /// settle the threshold at each initial state. It gives one after such a round if the tables settle the threshold
+    /// without a guess. If the bound asks for a value, it makes no guess, since no rule could use it. The team fills
+    /// the tables of the guess.
     pub fn asked_after<R: Threads + Sync>(
         &self,
         team: &Team<'_, R>,
@@ -79,7 +80,8 @@ impl<F: Fn(u64, u64) -> bool> Ending<'_, F> {
         self.settling_guess(team, alloc, lower, swapped_values, witnesses)
     }
 
-    /// The guess over lower bounds, where with the swapped values it settles the threshold at each initial state.
+    /// Gives the guess over the lower bounds if the guess and the swapped values settle the threshold at each initial
+    /// state.
     fn settling_guess<R: Threads + Sync>(
         &self,
         team: &Team<'_, R>,
@@ -110,7 +112,7 @@ impl<F: Fn(u64, u64) -> bool> Ending<'_, F> {
         Ok(Some(SettlingGuess { lower, guess }))
     }
 
-    /// Whether the rule says yes at each initial state, to the lower bound and to the lesser of the two upper ones.
+    /// Says whether the rule says yes at each initial state, to the lower bound and the lesser of the two upper bounds.
     fn settles(&self, lower: &[u64], swapped_values: &[u64], guess: &[u64]) -> bool
         requires rule { IsStopRule F.Fn self.now.rule.now }
         requires lower { length lower.now ≡ states self.now.question.now }
