@@ -6,7 +6,7 @@
 /// the table of swapped values, which are lower bounds of the swapped question.
 #[derive(Drop)]
 pub struct Bracket {
-    /// The rounds reach this table from below: all its entries are at most the values of some number of steps.
+    /// The rounds reach this table from below: for some k, each entry is at most the k-step value of its state.
     pub base: Vec<u64>,
     /// This is the lower guess of the base: k-step values come as near to it as one likes, for each state.
     pub lower: Vec<u64>,

@@ -1,4 +1,4 @@
-//! A bound is bracketed here: its question's zero set is found first, and then the bracket.
+//! A question gets its zero set, and then its bracket for a bound.
 
 ghost use Rattle.std.specs.Prelude.{◌≤◌, ◌<◌, All, IfOk};
 ghost use Rattle.game_model.specs.Query.{states};
@@ -19,7 +19,7 @@ use std::thread::Threads;
 use verdicts::{StopRule, settle};
 use zero_sets::zero_set_over;
 
-/// A bracket, and the zero set that it is made over.
+/// This is a bracket with the zero set that it is made over.
 #[derive(Drop)]
 pub struct Bracketed {
     /// The states of value 0.

@@ -16,7 +16,7 @@ use std::thread::Threads;
 use upper_guess::Witnesses;
 use value_words::{Posing, Words};
 
-/// The closed words of two races, and how their rounds ended.
+/// These are the closed words of two races, and how their rounds ended.
 #[derive(Drop)]
 pub struct Raced {
     /// The words of the question.
@@ -31,7 +31,7 @@ pub struct Raced {
     pub kept: Option<SettlingGuess>,
 }
 
-/// Two races whose words are not closed yet, and how their rounds ended.
+/// The words of these two races are not closed yet, but their rounds have ended.
 #[derive(Drop)]
 pub struct Racers<'q, 's, P: Posing, C: Posing> {
     pub lower: Runner<'q, P>,
@@ -41,9 +41,9 @@ pub struct Racers<'q, 's, P: Posing, C: Posing> {
     pub kept: Option<SettlingGuess>,
 }
 
-/// Makes rounds on the words of both questions. They end after the most rounds, or after a round that changed nothing
-/// on either, which shows that the words of both are settled, or when a guess settles the threshold at each initial
-/// state.
+/// Makes at most `rounds.most` rounds on the words of both questions. The rounds end early after one that changed
+/// nothing on either, which shows that the words of both are settled, or when a guess settles the threshold at each
+/// initial state.
 pub fn race<
     R: Threads + Sync,
     P: Posing + Send + Sync,
@@ -73,7 +73,7 @@ pub fn race<
     })
 }
 
-// Makes rounds on both until one changes nothing on either, or the threshold is settled, or the most rounds are made.
+// Makes at most `rounds.most` rounds on both, until one changes nothing on either or a guess settles the threshold.
 fn run_rounds<
     'q,
     's,

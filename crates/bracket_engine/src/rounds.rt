@@ -13,7 +13,7 @@ use std::thread::Threads;
 pub struct Rounds<'a, R: Threads + Sync, F: Fn(u64, u64) -> bool, G: Gate + Sync> {
     /// The team fills the tables of a guess.
     pub team: &'a Team<'a, R>,
-    /// The question, and what may end its run.
+    /// This is the question, with what may end its run.
     pub ending: &'a Ending<'a, F>,
     /// At most so many rounds are made.
     pub most: u32,

@@ -32,13 +32,13 @@ pub const MOST_ROUNDS: u32 = 1_000_000;
 /// each state. The marks are the question's zero set. The only error is want of memory.
 ///
 /// A round updates the lower table and then the swapped values, which are lower bounds of the swapped question. The run
-/// ends early in two cases. Both tables may be settled. Or after 1, 2, 4, 8 and so on rounds a guess is made over the
-/// lower bounds: the lower bounds and the lesser of the guess and of the unit less the swapped values may settle the
-/// rule at each initial state.
+/// ends early if both tables are settled. After 1, 2, 4, 8 and so on rounds a guess is made over the lower bounds, and
+/// the run ends if the rule is settled at each initial state by two bounds: the lower bound, and the lesser of the
+/// guess and of the unit less the swapped value.
 ///
-/// The base is the last lower table. The lower table is the lower guess of the base, which can find values that no
-/// number of rounds reaches, since they are values of the limit only. The upper table is the least of the unit less the
-/// swapped values, of the guess over the base, and of the guess that ended the run, if any.
+/// The base is the last lower table. The lower table is the lower guess of the base, which can find a value that only
+/// the limit reaches, and no number of rounds. The upper table is the least of the unit less the swapped values, of the
+/// guess over the base, and of the guess that ended the run, if any.
 pub fn bracket<R: Threads + Sync, F: Fn(u64, u64) -> bool, G: Gate + Sync>(
     rt: &R,
     alloc: Global,

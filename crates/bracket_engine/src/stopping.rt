@@ -15,7 +15,7 @@ use std::thread::Threads;
 use upper_guess::{Witnesses, guess_with};
 use verdicts::StopRule;
 
-/// The guess that ended a run, and the lower bounds that it was made over.
+/// This is the guess that ended a run, with the lower bounds that it was made over.
 #[derive(Drop)]
 pub struct SettlingGuess {
     /// The lower bounds, by state.
@@ -24,7 +24,8 @@ pub struct SettlingGuess {
     pub guess: Vec<u64>,
 }
 
-/// A question with its zero set and predecessors, and what may end its run: a rule that is asked at initial states.
+/// This is a question with its zero set and predecessors, and what may end its run: a rule that is asked at initial
+/// states.
 #[derive(Drop)]
 pub struct Ending<'a, F: Fn(u64, u64) -> bool> {
     pub question: &'a Question<'a>,
@@ -46,9 +47,9 @@ impl<F: Fn(u64, u64) -> bool> Ending<'_, F> {
     ghost use Rattle.bracket_engine.specs.Stop.{AreSettledAt, upper_from, IsSettlingGuess};
 
     /// After 1, 2, 4, 8 and so on rounds, gives the guess over the lower bounds if the guess and the swapped values
-    /// settle the threshold at each initial state. It gives one after such a round if the tables settle the threshold
-    /// without a guess. If the bound asks for a value, it makes no guess, since no rule could use it. The team fills
-    /// the tables of the guess.
+    /// settle the threshold at each initial state. It gives one after such a round if the lower bounds and the swapped
+    /// values settle the threshold without it. If the bound asks for a value, it makes no guess, since no rule could
+    /// use it. The team fills the tables of the guess.
     pub fn asked_after<R: Threads + Sync>(
         &self,
         team: &Team<'_, R>,

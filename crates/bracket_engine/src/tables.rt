@@ -25,7 +25,7 @@ pub fn complements(alloc: Global, values: &[u64]) -> Result<Vec<u64>, OutOfMemor
     }
 }
 
-/// Gives the table of the lesser of two entries for each state.
+/// Gives the lesser of two tables: each entry is the lesser of their entries.
 pub fn lesser(alloc: Global, one: &[u64], other: &[u64]) -> Result<Vec<u64>, OutOfMemory>
     requires { length other.now ≡ length one.now }
     ensures { IfOk result (λ table. AreLesser one.now other.now table.items) }

@@ -8,7 +8,7 @@ use game_model::Question;
 use std::thread::{Threads, for_each_chunk_mut};
 use upper_guess::{UpTables, fill_part};
 
-/// Workers who fill the up step of a table together. If there are W of them, a part has the number of states over W,
+/// These workers fill the up step of a table together. If there are W of them, a part has the number of states over W,
 /// rounded up. Worker w fills part w, counted from 0. The last workers may have none.
 #[derive(Drop)]
 pub struct Team<'a, R: Threads + Sync> {
@@ -20,7 +20,7 @@ pub struct Team<'a, R: Threads + Sync> {
 }
 
 impl<R: Threads + Sync> UpTables for Team<'_, R> {
-    // They share what starts threads.
+    // The workers share what starts threads.
     ghost can_fill = { IsSync R.row };
 
     fn fill(&self, question: &Question, table: &[u64], next: &mut [u64]) {

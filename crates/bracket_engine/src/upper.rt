@@ -15,7 +15,7 @@ use std::alloc::Global;
 use std::thread::Threads;
 use upper_guess::{Witnesses, guess_with};
 
-/// An upper table, and the minimiser's replies to it.
+/// This is an upper table with the minimiser's replies to it.
 #[derive(Drop)]
 pub struct UpperSide {
     /// The table has an upper bound for each state.

@@ -28,8 +28,8 @@ pub record IsAccepted (q : Query) (text : List ℕ) (plan : Plan) : Type 0 where
   pub read : IsSaid q text plan
   pub passes : Passes q plan
 
--- A plan is sound. Its upper table is above or equal to every k-step value. Its replies hold every strategy of the
--- maximiser to the upper table. Its choices reach its lower table, less any 1/m, against every strategy of the
+-- The plan is sound. Each entry of its upper table is at least every k-step value. Its replies hold every strategy of
+-- the maximiser to the upper table. Its choices reach its lower table, less any 1/m, against every strategy of the
 -- minimiser.
 pub record IsSoundPlan (q : Query) (plan : Plan) : Type 0 where
   pub high : IsHigh q (slice_index plan.upper.items)

@@ -48,7 +48,7 @@ pub(crate) struct Lists {
     pub maximises: Vec<bool>,
 }
 
-/// A choice that has no mark has this one.
+/// This mark says that a choice has none.
 pub const NO_MARK: u32 = 4_294_967_295;
 
 /// A game has fewer nodes.

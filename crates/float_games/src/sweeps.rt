@@ -41,7 +41,7 @@ impl FloatGame {
     ghost use Rattle.float_games.specs.Nodes.{nodes_of};
 
     /// Makes one sweep in place over all nodes: each gets the value of its choice, plus a cost. The policy's choice is
-    /// exchanged for the best one if this gains more than `gain`. Gives the greatest change and the number of
+    /// exchanged for the best one if that gains more than `gain`. Gives the greatest change and the number of
     /// exchanges.
     pub fn sweep(&self, cost: f64, gain: f64, values: &mut [f64], policy: &mut [u32]) -> Swept
         requires values { length values.old ≡ nodes_of self.now }

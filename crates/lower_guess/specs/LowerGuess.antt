@@ -8,7 +8,7 @@ use Rattle.game_model.specs.Rounded.{down_step}
 use Rattle.rank_certificate.specs.Layers.{AreLayered}
 use Rattle.rank_certificate.specs.Carrying.{CanBeRanked, IsLayeredPlan}
 
--- The excesses have the places 0, 1 and 2.
+-- The excesses 4, 2 and 1 have the places 0, 1 and 2.
 abbrev pub excess : ℕ → ℕ
 excess zero = 4
 excess (suc zero) = 2

@@ -90,8 +90,8 @@ impl Guesses<'_> {
         Ok(None)
     }
 
-    /// Gives a table after so many steps down, in which no state falls, with its plan. If it is refused, so is each
-    /// later one, and there is none.
+    /// Gives a table after so many steps down, in which no state falls, with its plan. It gives none if the table is
+    /// refused, since then each later one is refused.
     fn rank(
         &self,
         alloc: Global,

@@ -1,4 +1,4 @@
--- A certificate in a text is a relation of lines and entries.
+-- A text has a certificate if its lines spell the entries.
 use Rattle.std.specs.Prelude.{◌≡◌, ℕ, ◌+◌, List, [], ◌∷◌, ◌++◌, length, Some, false, All, codes}
 use Rattle.text_lines.specs.Text.{lines_of, fields_of, number_of}
 use Rattle.plan_text.specs.declared.version.Version.{Version}

@@ -105,7 +105,8 @@ abbrev pub is_heading : List (List ℕ) → Bool
 is_heading [] = false
 is_heading (name ∷ fields) = bytes_eq name (codes "certificate")
 
--- The certificate begins at the first of these lines that has this name. The first of the lines has this number.
+-- The certificate begins at the first of these lines whose first field is `certificate`. The first of the lines has
+-- this number.
 abbrev pub certificate_from : ℕ → ℕ → List (List ℕ) → Result (List Entry) PlanFault
 certificate_from states number [] = Err (fault_at 0 NoCertificate)
 certificate_from states number (line ∷ lines) =

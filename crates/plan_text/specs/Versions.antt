@@ -18,7 +18,7 @@ abbrev pub version_text : Version → List ℕ
 version_text One = codes "1"
 version_text Two = codes "2"
 
--- A field may name a version.
+-- The field names this version, if any.
 abbrev pub version_in : List ℕ → Option Version
 version_in field = if bytes_eq field (codes "1") then Some One else
     (if bytes_eq field (codes "2") then Some Two else None)

@@ -13,7 +13,7 @@ ghost use Rattle.plan_text.specs.Laws.{IsPassedOver, as_lines};
 use crate::entry::GREATEST_CHOICE;
 use crate::fixed::UNIT_DIGITS;
 
-/// The constants are equal to the numbers of the definitions, and the unit is a power of ten.
+/// The constants are equal to the numbers of the definitions, and the unit is ten to the power of `unit_digits`.
 pub fn limits()
     ensures digits { UNIT_DIGITS ≡ unit_digits }
     ensures unit { 10 ^ unit_digits ≡ unit }
@@ -25,7 +25,7 @@ pub fn fixed_text_has_one_reading()
     ensures { (u v : ℕ) → u ≤ unit → v ≤ unit → fixed u ≡ fixed v → u ≡ v }
 {}
 
-/// A value of the first version is a value of the second version with three zeros less.
+/// A value of the first version, with three zeros more, is the same value of the second version.
 pub fn old_values_have_three_zeros_less()
     ensures { (field : List ℕ) (u : ℕ) → units_of One field ≡ Some u → units_of Two (field ++ codes "000") ≡ Some u }
 {}

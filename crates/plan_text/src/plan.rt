@@ -11,13 +11,13 @@ use std::alloc::{AllocError, Global};
 pub struct Plan {
     /// Each state has a lower bound, in units.
     pub lower: Vec<u64>,
-    /// The maximiser's choices may be absent.
+    /// A state may have a choice of the maximiser.
     pub choices: Vec<Option<u32>>,
     /// Each state has a rank.
     pub ranks: Vec<u32>,
     /// Each state has an upper bound, in units.
     pub upper: Vec<u64>,
-    /// The minimiser's choices may be absent.
+    /// A state may have a choice of the minimiser.
     pub replies: Vec<Option<u32>>,
 }
 

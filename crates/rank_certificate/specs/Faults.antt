@@ -12,7 +12,7 @@ use Rattle.rank_certificate.specs.declared.check.RankCause.{RankCause}
 use Rattle.rank_certificate.specs.declared.check.RankCause.TheVariants.{Value, Choice, Short, NoStep}
 use Rattle.rank_certificate.specs.Ranking.{IsEnough, IsShort, LeadsOnward, NeedsRank, HasChoice, IsRankedAt}
 
--- A goal does not have the unit, or a dead state does not have 0.
+-- A goal does not have the unit as its value, or a dead state does not have 0.
 abbrev pub IsMisvalued : Query → (ℕ → ℕ) → ℕ → Type 0
 IsMisvalued q value s = ((is_goal q s ≡ true) × (value s ≢ unit)) ⊎ ((is_dead q s ≡ true) × (value s ≢ 0))
 

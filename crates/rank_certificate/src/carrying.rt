@@ -75,7 +75,7 @@ impl Asked<'_> {
 
     /// Says whether a choice of a state may be taken, and leads to a greater value, or to an equal one whose rank was
     /// found. If choices of the maximiser are given, these may be taken and each choice of the minimiser. If none are
-    /// given, each choice that gives its state the value may be taken.
+    /// given, each choice that gives its state at least the value may be taken.
     pub fn carries(
         &self,
         row: &Row<'_>,

@@ -28,7 +28,7 @@ impl Growth {
     ghost use Rattle.rank_certificate.specs.inside.Growth.{IsOpened};
     ghost use Rattle.rank_certificate.specs.inside.OfAsked.{states_in, value_in, IsGrowthIn, IsApartIn, LooksIn, FollowsIn, AreFollowedIn};
 
-    /// Gives the states that need no rank layer 0.
+    /// Puts the states that need no rank in layer 0.
     pub fn of_unneeded(alloc: Global, asked: &Asked<'_>) -> Result<Growth, OutOfMemory>
         ensures opened { IfOk result (λ g. IsOpened asked.now.question.now (value_in asked.now) (states_in asked.now)
             g.ranks.items g.order.items) }

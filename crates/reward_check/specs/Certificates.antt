@@ -1,4 +1,4 @@
--- A certificate of rewards says this, and promises that it is sound.
+-- A certificate of rewards has these entries. It is sound if they bound what the game is worth.
 use Rattle.std.specs.Prelude.{ℕ, ◌+◌, Bool, List, Option, slice_index}
 use Rattle.game_model.specs.Game.{Distribution, choices_below}
 use Rattle.game_model.specs.Query.{Query}

@@ -79,7 +79,7 @@ place_of Ranks = 1
 place_of Lower = 2
 place_of Infinite = 3
 
--- Both values of each goal are 0, and this is the first state that fails the first part that fails.
+-- Both values of each goal are 0, and this is the first state that does not pass the first part that fails.
 pub record IsPartFault (c : Certificate) (s : ℕ) (cause : RewardCause) : Type 0 where
   pub goals : GoalsHaveZeros c
   pub part : Part

@@ -1,4 +1,4 @@
-//! Some choices of a state are a range.
+//! The choices that may be taken at a state are a range.
 
 /// The range has the choices from `from` up to `to`, without `to`.
 #[derive(Clone, Copy)]

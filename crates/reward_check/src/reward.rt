@@ -1,4 +1,4 @@
-//! A choice has a reward, and is worth the reward and its average over a table.
+//! A choice is worth its reward plus its weighted average over a table.
 
 ghost use Rattle.std.specs.Prelude.{◌≡◌, ◌<◌, ◌≤◌, ◌↔◌, length, slice_index, All, IsTrue};
 ghost use Rattle.game_model.specs.Game.{choices_of, choice_of};

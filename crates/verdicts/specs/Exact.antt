@@ -1,4 +1,4 @@
--- A verdict says something of a probability that is a fraction.
+-- A verdict may be about a probability that is a fraction.
 use Rattle.std.specs.Prelude.{ℕ}
 use Rattle.formula_reader.specs.declared.formula.Bound.{Bound}
 use Rattle.rpatl_syntax.specs.Dual.{IsMetBy}

@@ -23,7 +23,7 @@ pub record IsEnd (q swapped_question : Query) (zero : List Bool) (bound : Bound)
   pub early : rounds < asked → (still ≡ true) ⊎ (is_some guess ≡ true)
   pub in_time : EndsWhereSettled q swapped_question bound initial rounds
 
--- Two races made equally many rounds, and their rounds are over by the values that were read last.
+-- Two races made equally many rounds, and the values that were read last show that their rounds are over.
 pub record HaveRaced {P C : Type 0} {h i : _} (q swapped_question : Query) (zero : List Bool) (bound : Bound)
     (initial : List ℕ) (asked : ℕ) (racers : Racers P C h i) : Type 0 where
   pub lower : IsRacing q racers.rounds racers.lower.pass racers.lower.agenda

@@ -7,7 +7,7 @@ use Rattle.plan_text.specs.declared.version.Version.{Version}
 use Rattle.plan_text.specs.Entries.{Entry}
 use Rattle.plan_text.specs.Said.{fault_at, then_at, line_said}
 
--- The entry has its numbers cut off at 64 bits.
+-- A number that is too great for 64 bits becomes the greatest number of 64 bits.
 abbrev pub saturated_entry : Entry → Entry
 saturated_entry entry = record {
   lower = entry.lower;
