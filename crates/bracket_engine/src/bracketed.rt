@@ -22,9 +22,9 @@ use zero_sets::zero_set_over;
 /// This is a bracket with the zero set that it is made over.
 #[derive(Drop)]
 pub struct Bracketed {
-    /// The states of value 0.
+    /// These are the states of value 0.
     pub zero: Marks,
-    /// The bracket.
+    /// This is the bracket.
     pub bracket: Bracket,
 }
 

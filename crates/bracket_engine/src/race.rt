@@ -19,9 +19,9 @@ use value_words::{Posing, Words};
 /// These are the closed words of two races, and how their rounds ended.
 #[derive(Drop)]
 pub struct Raced {
-    /// The words of the question.
+    /// These are the words of the question.
     pub words: Words,
-    /// The words of the swapped question.
+    /// These are the words of the swapped question.
     pub swapped_words: Words,
     /// So many rounds were completed on each.
     pub rounds: u32,

@@ -18,9 +18,9 @@ use verdicts::StopRule;
 /// This is the guess that ended a run, with the lower bounds that it was made over.
 #[derive(Drop)]
 pub struct SettlingGuess {
-    /// The lower bounds, by state.
+    /// Each state has a lower bound.
     pub lower: Vec<u64>,
-    /// The guess, by state.
+    /// Each state has an entry of the guess.
     pub guess: Vec<u64>,
 }
 

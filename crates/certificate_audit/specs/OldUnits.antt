@@ -5,6 +5,6 @@ use Rattle.std.specs.Prelude.{ℕ, ◌*◌, List, map}
 abbrev pub old_unit : ℕ
 old_unit = 1000000000000
 
--- A table of old units is read in units.
+-- A table of old units is read in units: each value becomes a thousandfold.
 abbrev pub thousandfold : List ℕ → List ℕ
 thousandfold table = map (λ value. 1000 * value) table

@@ -9,8 +9,8 @@ use std::alloc::Global;
 
 /// A game of nodes, choices and edges is kept in flat lists. The choices of a node are those from its entry in
 /// `choice_starts` up to the next entry. The edges of a choice are those from its entry in `edge_starts` up to the next
-/// entry. A choice leaves with a share of probability, and then gives so many units. Its edges have the rest. Its mark
-/// says whose choice it is.
+/// entry. A choice leaves with a share of probability, and its edges have the rest. It gives the sum of the values, in
+/// units, to which it leaves, each times its share. Its mark says whose choice it is.
 #[derive(Drop)]
 pub struct FloatGame {
     pub(crate) choice_starts: Vec<u32>,

@@ -19,15 +19,15 @@ pub(crate) const GREATEST_CHOICE: u64 = 16_383;
 /// A line says this of its state. Contracts see it as an entry.
 #[derive(Drop)]
 pub struct StateLine {
-    /// The lower bound in units.
+    /// The state has this lower bound, in units.
     pub lower: u64,
-    /// The maximiser's choice.
+    /// The maximiser may have a choice.
     pub choice: Option<u64>,
-    /// The rank.
+    /// The state has this rank.
     pub rank: u64,
-    /// The upper bound in units.
+    /// The state has this upper bound, in units.
     pub upper: u64,
-    /// The minimiser's choice.
+    /// The minimiser may have a choice.
     pub reply: Option<u64>,
 }
 

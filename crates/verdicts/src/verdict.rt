@@ -53,7 +53,7 @@ impl Verdict {
     }
 }
 
-/// Says what a lower and an upper bound, in units, say of the bound on the value between them.
+/// Gives the verdict of a lower and an upper bound, in units, on a bound of the value between them.
 ///
 /// | Bound | `Yes` if | `No` if |
 /// |---|---|---|
