@@ -15,7 +15,7 @@ use Rattle.asked_files.specs.declared.load.End.TheVariants.{OutOfMemory, ReadFau
 use Rattle.asked_files.specs.Said.{Said, NotHeld, Refuses, Denoted}
 use Rattle.asked_files.specs.Sources.{IfKnown}
 
--- Loading ends so if a formula poses no question.
+-- This is how loading ends if a formula poses no question.
 abbrev pub end_of_question : PoseFault → End
 end_of_question pose.OutOfMemory = OutOfMemory
 end_of_question (pose.UnknownLabel name) = Refused (OfQuestion (pose.UnknownLabel name))
@@ -71,8 +71,8 @@ pub record LoadingLeaves {S X : Type 0} (held : S → Option Holding) (steady : 
   pub takes : Takes result (took new)
   pub kept : KeepsShelf (held old) (held new) (steady old) (steady new) (faults old) (faults new)
 
--- A file that was not accepted gives no text: for the fault that its reader found, or, if it was not read to its end,
--- as loading ends.
+-- This is why a file that was not accepted gives no text: the fault that its reader found, or, if the file was not read
+-- to its end, how loading ends.
 abbrev pub fault_of : {F : Type 0} → Text → FileEnd F → Result F End
 fault_of text file.OutOfMemory = Err OutOfMemory
 fault_of text file.ReadFault = Err ReadFault

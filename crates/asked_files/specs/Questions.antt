@@ -1,5 +1,5 @@
 -- This file says what becomes of the texts under the names of a command, of the text of a certificate, and of that of
--- initial values.
+-- values to begin with.
 use Rattle.std.specs.Prelude.{◌≡◌, ◌<◌, ℕ, List, length, Option, Some, None}
 use Rattle.text_lines.specs.Limits.{most_bytes}
 use Rattle.game_outside.specs.Outside.{Holding}
@@ -68,7 +68,7 @@ RefusesCertificate q source (OfCertificate fault) = GivenTextWith source (λ tex
 RefusesCertificate q source (TooLong Cert) = IsLonger source
 RefusesCertificate q source refusal = ⊥
 
--- 4. Initial values.
+-- 4. Values to begin with.
 
 -- If a file of values is named, there is a text that has no fault for this many states. If the holding is known, it is
 -- the held one.

@@ -8,13 +8,13 @@ pub data Said (X : Type 0) : Type 0 where
   Refuses : Refusal → Said X
   Denoted : X → Said X
 
--- More is said from what was said before. The first text that is not held, or the first refusal, ends it.
+-- What is said next depends on what was said before. The first text that is not held, or the first refusal, ends it.
 abbrev pub and_then : {X Y : Type 0} → Said X → (X → Said Y) → Said Y
 and_then NotHeld next = NotHeld
 and_then (Refuses refusal) next = Refuses refusal
 and_then (Denoted x) next = next x
 
--- A reader says this of a text. Its faults are refusals of this kind.
+-- A reader says this of a text, and its faults are refusals of this kind.
 abbrev pub read_said : {X F : Type 0} → (F → Refusal) → Result X F → Said X
 read_said refusal (Ok x) = Denoted x
 read_said refusal (Err fault) = Refuses (refusal fault)

@@ -1,4 +1,4 @@
--- Each text of a command says a game, labels or owners, or its first refusal.
+-- Each text of a command denotes a game, labels or owners, or has a first refusal.
 use Rattle.std.specs.Prelude.{ℕ, List, [], ◌∷◌, length, replicate, codes, nat_lt, Option, Some, None, if◌then◌else◌}
 use Rattle.text_lines.specs.Limits.{most_bytes}
 use Rattle.game_model.specs.Game.{Distribution}

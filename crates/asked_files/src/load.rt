@@ -15,7 +15,7 @@ use std::alloc::Global;
 use text_lines::MOST_BYTES;
 use tra_reader::read_tra_from;
 
-/// Loading that gives nothing ends so.
+/// Loading ends in one of these ways if it gives nothing.
 #[derive(Drop)]
 pub enum End {
     OutOfMemory,

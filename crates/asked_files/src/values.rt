@@ -1,4 +1,4 @@
-//! This module reads initial values from a file of any tool.
+//! This module reads values to begin with, from a file of any tool.
 
 ghost use Rattle.std.specs.Prelude.{◌≡◌, ◌≤◌, None, Some, Err, IfOk, IfSome, IsErrOf, is_some, length, option_map, true};
 ghost use Rattle.text_lines.specs.Limits.{most_bytes};

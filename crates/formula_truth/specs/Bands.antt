@@ -27,7 +27,7 @@ Bands (Inner team bound kind left right) = Band × Bands left × Bands right
 abbrev pub verdict_at : Bound → Band → ℕ → Verdict
 verdict_at bound band s = verdict_of bound (slice_index band.lower s) (slice_index band.upper s)
 
--- A state formula surely holds at some states, and possibly holds at some.
+-- This says where a state formula surely holds, and where it possibly does.
 pub record Known : Type 0 where
   pub sure : ℕ → Bool
   pub possible : ℕ → Bool
@@ -90,10 +90,11 @@ exactly holds = record { sure = holds; possible = holds }
 abbrev pub negated : Known → Known
 negated k = record { sure = (λ s. not (k.possible s)); possible = (λ s. not (k.sure s)) }
 
--- Two formulas joined by and surely hold where both do, and possibly hold where both do.
+-- The conjunction of two formulas surely holds where both surely hold, and possibly holds where both possibly hold.
 abbrev pub both : Known → Known → Known
 both k l = record { sure = (λ s. k.sure s && l.sure s); possible = (λ s. k.possible s && l.possible s) }
 
--- Two formulas joined by or surely hold where either does, and possibly hold where either does.
+-- The disjunction of two formulas surely holds where either surely holds, and possibly holds where either possibly
+-- holds.
 abbrev pub either : Known → Known → Known
 either k l = record { sure = (λ s. k.sure s || l.sure s); possible = (λ s. k.possible s || l.possible s) }

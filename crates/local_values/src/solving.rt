@@ -25,9 +25,9 @@ const FOUND: f64 = 64.0;
 /// Choices are exchanged by differences at most this many times.
 const TURNS: u32 = 20;
 
-/// Brings values and a policy near those of the game, and values nearer from what they miss. Where loops make much of
-/// little, choices may tie in floats and gain by differences. Then they are exchanged. The only error is want of
-/// memory.
+/// Brings values and a policy near those of the game, and values nearer from what they miss. If loops enlarge small
+/// differences, choices may tie in floats and still gain by differences. Then they are exchanged. The only error is
+/// want of memory.
 pub fn solve_nearly(
     alloc: Global,
     game: &FloatGame,

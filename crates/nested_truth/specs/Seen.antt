@@ -18,14 +18,14 @@ use Rattle.formula_truth.specs.Runs.{AreFound}
 abbrev pub model_of : Setting → Model
 model_of setting = record { game = setting.game.now; labels = setting.labels.now; owners = setting.owners.now }
 
--- Two lists of marks say this.
+-- Two lists of marks say where a formula surely holds, and where it possibly does.
 abbrev pub seen : KnownSets → Known
 seen sets = record {
   sure = (λ s. slice_index_or sets.sure.items s false);
   possible = (λ s. slice_index_or sets.possible.items s false);
 }
 
--- Two say the same of this many states.
+-- Both say the same of each of this many states.
 pub record AreAlike (n : ℕ) (one other : Known) : Type 0 where
   pub sure : (s : ℕ) → s < n → one.sure s ≡ other.sure s
   pub possible : (s : ℕ) → s < n → one.possible s ≡ other.possible s

@@ -19,7 +19,7 @@ pub struct Setting<'a> {
     pub game: &'a Game,
     pub labels: &'a Labels,
     pub owners: &'a Owners,
-    /// These are the choices that lead to each state.
+    /// This has for each state the choices that lead to it.
     pub predecessors: &'a Predecessors,
     /// These are all states, in rising order.
     pub everywhere: &'a [u32],

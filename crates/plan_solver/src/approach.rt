@@ -8,10 +8,10 @@ use game_outside::OutOfMemory;
 use predecessors::{Move, Predecessors};
 use std::alloc::Global;
 
-/// This stands for no choice.
+/// This number means no choice.
 pub const NONE: u32 = u32::MAX;
 
-/// A state of the maximiser waits for any choice.
+/// This number means that a state of the maximiser waits for any choice.
 const ANY: u32 = u32::MAX;
 
 /// The states of positive value join backward from the goals.

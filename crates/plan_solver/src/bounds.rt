@@ -24,8 +24,8 @@ use table_rounding::UnitTable;
 const TURNS: u32 = 6;
 
 /// Finds what a solver takes for lower and upper bounds of a question, over the predecessors in its game, when the
-/// states of value 1 and those of value 0 are known. If these are all states, the tables are empty. Initial values, one
-/// for each state, are only hints: upper values begin with them. The only error is want of memory.
+/// states of value 1 and those of value 0 are known. If these are all states, the tables are empty. Values to begin
+/// with, one for each state, are only hints: upper values begin with them. The only error is want of memory.
 pub fn find_bounds(
     alloc: Global,
     question: &Question,
@@ -226,7 +226,8 @@ fn is_open_component(frame: &Frame<'_, '_>, component: u32) -> bool
     }
 }
 
-/// Returns the initial upper values, in units. Each is the hint, or the value of the lower table if this is greater.
+/// Returns the values with which upper ones begin, in units. Each is the hint, or the value of the lower table if this
+/// is greater.
 fn first_values(mut values: Vec<f64>, hints: Option<&[f64]>) -> Vec<f64> {
     let Some(hints) = hints else {
         return values;

@@ -29,7 +29,7 @@ use Rattle.run_refusals.specs.declared.refusal.Refusal.{Refusal}
 use Rattle.run_refusals.specs.declared.refusal.Refusal.TheVariants.{OfTra, OfLab, OfOwn, OfFormula, OfQuestion}
 use Rattle.run_refusals.specs.declared.refusal.Refusal.TheVariants.{WrongKind, OfCertificate, OfValues, TooLong}
 
--- A number follows a name.
+-- This text is a name and a number behind it.
 abbrev pub numbered : List ℕ → ℕ → List ℕ
 numbered name n = name ++ decimal n
 
@@ -149,12 +149,12 @@ name_of_text Own = codes "own"
 name_of_text Cert = codes "cert"
 name_of_text Values = codes "values"
 
--- This line says a fault of a file, with its line.
+-- This line tells a fault of a file, with the line of the file.
 abbrev pub refused_line : Text → ℕ → List ℕ → List ℕ
 refused_line text line cause = codes "refused " ++ (name_of_text text
     ++ (numbered (codes " line ") line ++ (32 ∷ (cause ++ codes "\n"))))
 
--- This line says a fault of the formula, with its place.
+-- This line tells a fault of the formula, with its place.
 abbrev pub formula_refused : FormulaFault → List ℕ
 formula_refused fault = codes "refused formula place " ++ (decimal fault.place
     ++ (32 ∷ (formula_text fault.cause ++ codes "\n")))
@@ -163,11 +163,11 @@ formula_refused fault = codes "refused formula place " ++ (decimal fault.place
 abbrev pub question_line : List ℕ → List ℕ
 question_line cause = codes "refused question line 0 " ++ (cause ++ codes "\n")
 
--- This line says a fault of the question. A name is printed as its bytes.
+-- This line tells a fault of the question. A name is printed as its bytes.
 abbrev pub question_refused : PoseFault → List ℕ
 question_refused fault = question_line (question_text fault)
 
--- This line says a fault of the text of a certificate, with its line, or of what it says, with the state.
+-- This line tells a fault of the text of a certificate, with the line, or of what it says, with the state.
 abbrev pub certificate_refused : AuditFault → List ℕ
 certificate_refused (audit.Text fault) = refused_line Cert fault.line (plan_cause_text fault.cause)
 certificate_refused (audit.Upper fault) = refused_line Cert 0 (upper_text fault.state fault.cause)

@@ -25,8 +25,8 @@ use std::thread::Threads;
 use zero_sets::zero_set_over;
 
 /// Finds a plan of a question, over the predecessors in its game, that passes the checks of an audit and is sound. The
-/// lower bound is 1 exactly at the almost-sure states, and the upper one 0 exactly in the zero set. Initial values, one
-/// for each state, are only hints.
+/// lower bound is 1 exactly at the almost-sure states, and the upper one 0 exactly in the zero set. Values to begin
+/// with, one for each state, are only hints.
 ///
 /// A state of `starts` is asked about if its bounds do not settle the bound. If they are far apart at one such state,
 /// one worker makes rounds and passes the gate before each state. Then each side takes the better table: the upper one

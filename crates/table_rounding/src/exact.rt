@@ -57,8 +57,8 @@ struct Divided {
 }
 
 impl Divided {
-    /// Divides. The quotient is 0 if the divisor is 0, and the unit if it is beyond 64 bits. Nothing is divided by 1,
-    /// as in a choice of one edge of weight 1.
+    /// Divides. The quotient is 0 if the divisor is 0, and the unit if it is beyond 64 bits. A divisor of 1, as in a
+    /// choice of one edge of weight 1, needs no division.
     fn of(sum: u128, total: u128) -> Divided {
         if total <= 1 {
             let whole = if total == 0 { 0 } else { sum };

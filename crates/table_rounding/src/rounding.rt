@@ -17,7 +17,7 @@ use std::num::saturating_f64_to_u64;
 pub struct Effort {
     /// Settling looks at no more choices than this.
     pub looks: u64,
-    /// It gives up if four sweeps do not halve what changes.
+    /// If this is set, it gives up when four sweeps do not halve what changes.
     pub is_hasty: bool,
 }
 

@@ -24,8 +24,8 @@ pub record IsBestExit (q : Query) (table : ℕ → ℕ) (set : ℕ → Bool) (va
   pub most : (s c : ℕ) → IsExit q set s c → up_value table (choice_of q.game s c) ≤ value
   pub given : (value ≡ 0) ⊎ GivesExit q table set value
 
--- Each number has the greatest up value of its exits at the states before this one and by the earlier choices of this
--- one, and 0 if there is no such exit. The greatest value is one of some exit of the number, or 0.
+-- Each number has a value that is at least the up value of each of its exits at a state before this one, or by an
+-- earlier choice of this one. The value is the up value of some exit of the number, or 0.
 pub record IsBestBefore (q : Query) (table : ℕ → ℕ) (of exits : List ℕ) (state choice : ℕ) : Type 0 where
   pub earlier : (i s c : ℕ) → 1 ≤ i → IsExit q (numbered of i) s c → s < state
       → up_value table (choice_of q.game s c) ≤ slice_index exits i

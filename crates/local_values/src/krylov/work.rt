@@ -86,8 +86,8 @@ impl Work {
         true
     }
 
-    /// Takes alpha times what a pass takes from the direction from the residual. Returns omega, the multiple of what a
-    /// pass takes from the residual that is nearest to the residual.
+    /// The residual loses alpha times what a pass takes from the direction. Returns omega: this multiple of what a pass
+    /// takes from the residual is nearest to it.
     fn turn(&mut self, chain: &Chain, alpha: f64) -> f64
         requires { self.old.nodes ≡ nodes_in chain.now }
         ensures { self.new.nodes ≡ self.old.nodes }
