@@ -33,8 +33,8 @@ impl Model for Components {
 
 impl Components {
     /// Finds the strongly connected components over the choices that are kept (Tarjan 1972). The members of each
-    /// component follow the given order. States that it lacks come behind them and follow their numbers. The only error
-    /// is want of memory.
+    /// component follow the given order. States that this order lacks come behind them, by their numbers. The only
+    /// error is want of memory.
     pub fn of_question<K: Keeps>(
         alloc: Global,
         question: &Question,
