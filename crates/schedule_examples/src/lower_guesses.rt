@@ -120,8 +120,8 @@ fn check_guesses(alloc: Global, game: &Game, rows: &[(u64, u64)], choice: u32) -
 #[test]
 fn the_coin_loop_is_met_in_the_limit(rt: HostRuntime) -> Result<(), Fail> {
     let alloc = rt.alloc();
-    // The guess begins 4 units above the value. From close to one half it falls to 3, to 1 and to 0 units above one
-    // half. From far below it stays 4 units above the value.
+    // With an excess of 4 units, the table over `HALF - 1` falls from 3 units above one half to 1 and to 0. A table
+    // from far below is accepted with the whole excess.
     let rows = [(HALF - 1, HALF), (HALF, HALF), (0, 4), (HALF - 9, HALF - 5)];
     check_guesses(alloc, &coin_loop(alloc)?, &rows, 0)
 }
