@@ -21,7 +21,7 @@ abbrev pub ending : Bool → List ℕ → List ℕ → List ℕ
 ending stable lower upper = if stable then numbered (codes " lower ") (sum_of lower)
     ++ (numbered (codes " upper ") (sum_of upper) ++ codes " settled\n") else codes " unsettled\n"
 
--- This is the line `model seed A states N zero Z` with its ending, if Z states have value 0.
+-- The line `model seed A states N zero Z`, with its ending, says that Z states have value 0.
 abbrev pub summary_text : ℕ → ℕ → ℕ → Bool → List ℕ → List ℕ → List ℕ
 summary_text seed states zeros stable lower upper =
     numbered (codes "model seed ") seed ++ (numbered (codes " states ") states

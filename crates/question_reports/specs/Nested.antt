@@ -15,7 +15,7 @@ use Rattle.asked_files.specs.Posed.{HasSizes}
 use Rattle.run_answers.specs.Printed.{line_of, status_of}
 use Rattle.run_answers.specs.declared.status.Status.{Status}
 
--- This is the line `inner I undecided U`: I formulas are inside, and U pairs of one of them and a state are left
+-- The line `inner I undecided U` says that I formulas are inside, and that U pairs of one of them and a state are left
 -- undecided.
 abbrev pub inside_text : ℕ → ℕ → List ℕ
 inside_text inner undecided = numbered (codes "inner ") inner

@@ -14,8 +14,8 @@ ghost use Rattle.question_reports.specs.Made.{IsMade};
 use bracket_engine::laws::{lower_tables_agree, settled_bases_agree, settled_upper_bounds_agree};
 
 /// The bounds of `G`, which are mirrored when they are printed, are sound. The lower one is at most 1 less every k-step
-/// value of the dual. For some k-step value, 1 less it, less any 1/m, is at most the upper one. This holds of every
-/// plan that passes, whether it comes from a bracket or from a certificate of any origin.
+/// value of the dual. For any m there is a k-step value of the dual such that 1 less it, less 1/m, is at most the upper
+/// one. This holds of every plan that passes, whether it comes from a bracket or from a certificate of any origin.
 pub fn mirrored_bounds_are_sound()
     ensures { (q : Query) (plan : Plan) (s : ℕ) → HasStates plan (states q) → Passes q plan → IsSoundPlan q plan
         → s < states q → Reaches q (slice_index plan.lower.items s) unit s

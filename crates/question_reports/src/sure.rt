@@ -17,9 +17,9 @@ use std::alloc::Global;
 /// This is what `sure` says of a question.
 #[derive(Drop)]
 pub struct SureReport {
-    /// The report is this text.
+    /// This is the text of the report.
     pub text: Vec<u8>,
-    /// Every initial state is listed.
+    /// This says whether every initial state is listed.
     pub all: bool,
 }
 

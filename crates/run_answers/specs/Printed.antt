@@ -32,7 +32,7 @@ line_of mirrored bound how lower upper s =
     let high = (if mirrored then unit - slice_index lower s else slice_index upper s) in
     record { state = s; lower = low; upper = high; how = how; verdict = verdict_of bound low high }
 
--- A certificate is that of the question which is answered.
+-- A certificate is that of the answered question.
 abbrev pub certificate_of : Bool → Tree → Plan → Option Certificate
 certificate_of asked f plan = if asked then Some (record { formula = answered f; entries = entries_of plan }) else None
 

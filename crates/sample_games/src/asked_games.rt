@@ -4,7 +4,7 @@ use crate::draft::{Draft, question_with};
 use game_model::{Game, Question};
 use std::alloc::Global;
 
-/// A coin is thrown again and again: state 0 stays with weight 2, is won with weight 1 and is lost with weight 1.
+/// A coin is thrown again and again. State 0 stays with weight 2, wins with weight 1 and loses with weight 1.
 pub fn coin_game(alloc: Global) -> Option<Game> {
     let mut draft = Draft::new(alloc, 3);
     draft.one(alloc, &[(0, 2), (1, 1), (2, 1)])?;

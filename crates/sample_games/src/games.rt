@@ -55,7 +55,7 @@ pub fn chain(alloc: Global, count: u32) -> Result<Game, Fail>
     draft.game_with(alloc, count as usize)
 }
 
-/// The one state stays where it is.
+/// There is one state, which stays where it is.
 pub fn one_state(alloc: Global) -> Result<Game, Fail>
     ensures { IfOk result (λ game. length game ≡ 1) }
 {

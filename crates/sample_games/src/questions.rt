@@ -96,7 +96,7 @@ pub fn question_with_minimiser_at(
 }
 
 /// Asks how likely this goal is reached if one side chooses at all states and one state is dead. A goal or a dead state
-/// that is past the last state is none.
+/// past the last state does not count.
 pub fn question_with_dead(
     alloc: Global,
     game: &Game,

@@ -41,7 +41,7 @@ impl Draw {
     }
 }
 
-/// This says which games are drawn. Every number except the first is the greatest one.
+/// These numbers say which games are drawn. Each one except the first is the greatest that a game may have.
 #[derive(Clone, Copy)]
 pub struct Shape {
     pub least_states: u32,

@@ -11,7 +11,7 @@ use std::test::Fail;
 
 const FIFTH: u64 = UNIT / 5;
 
-/// These values, choices and ranks of four states pass the check, and the least such ranks are given too.
+/// These values, choices and wide ranks of four states pass the check, and the least ranks that do are given with them.
 struct Layers {
     values: [u64; 4],
     choices: [Option<u32>; 4],

@@ -22,7 +22,7 @@ use std::thread::Threads;
 use upper_guess::{Alone, Witnesses, guess_with};
 use zero_sets::zero_set;
 
-/// A guess may make at most so many up steps of whole tables.
+/// A guess may make at most this many up steps of whole tables.
 const FEW: u64 = 60;
 
 // Counts the up steps of the guess over the base after so many rounds.

@@ -95,7 +95,7 @@ fn each_side_takes_its_best_choice(rt: HostRuntime) -> Result<(), Fail> {
     check_two_nodes(rt.alloc(), false, &[1, 3], &[1, 2], &[0.65, 0.2])
 }
 
-/// From the first policy the two nodes come to the second, and to these shares of the unit.
+/// From the policy `start` the two nodes come to the policy `wanted`, and to these shares of the unit.
 fn check_two_nodes(
     alloc: Global,
     maximises: bool,

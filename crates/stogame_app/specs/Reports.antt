@@ -74,7 +74,7 @@ pub data IsReportOfWords (words : List (List ℕ)) (holding : Option Holding) (t
   of_solve : (solve : Solve) (p : Posing) (f : Tree) → Solves words holding taken solve (OfReach p) f
       → GivesValues holding solve.values (states p.question) → IsSolved p.question p.initial f solve.plan text status
       → IsReportOfWords words holding taken text status
-  -- `solve` of `F<=k`, `U<=k` and `X` reports what `check` does.
+  -- `solve` of `F<=k`, `U<=k` and `X` reports what `check` reports.
   of_solve_within : (solve : Solve) (steps : ℕ) (p : Posing) (f : Tree)
       → Solves words holding taken solve (OfWithin steps p) f
       → IsWithinReport p.question steps p.initial f text status → IsReportOfWords words holding taken text status

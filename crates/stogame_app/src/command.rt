@@ -42,7 +42,7 @@ use std::thread::Threads;
 /// schedule of the workers, who pass a gate before states. For `G` all this holds of its dual, and 1 less the bounds of
 /// the dual is printed.
 ///
-/// With `F<=k`, `U<=k` and `X` exactly k steps or one step are made, and what both sides can be sure of within these
+/// With `F<=k` and `U<=k` exactly k steps are made, and with `X` one step. What both sides can be sure of within these
 /// steps lies between the bounds. With formulas inside, a first line counts them and what their bounds leave undecided.
 /// The bounds are sound, and True and False are right, for the exact question, in which each formula inside holds where
 /// it is true. What is not accepted is refused by one line that names the cause and its place.

@@ -1,4 +1,4 @@
-//! This module makes real files a shelf.
+//! This module offers real files as a shelf.
 
 ghost use Rattle.std.specs.Prelude.{◌≡◌, None, false, option_map};
 ghost use Rattle.std.specs.String.{string_bytes};

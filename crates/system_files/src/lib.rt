@@ -1,5 +1,5 @@
-//! This crate makes real files and a real writer the shelf and the sink of a run. No contract says what they hold: they
-//! are the trusted edge.
+//! This crate offers real files and a real writer as the shelf and the sink of a run. No contract says what they hold:
+//! they are the trusted edge.
 //!
 //! [`FileShelf`] and [`OutSink`] keep what `game_outside` asks of each shelf and each sink, and tell nothing of the
 //! bytes. Each remembers why the last call that failed did so, for a line on standard error; no clause speaks of that.

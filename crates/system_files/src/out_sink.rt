@@ -1,4 +1,4 @@
-//! This module makes a real writer a sink.
+//! This module offers a real writer as a sink.
 
 ghost use Rattle.std.specs.Prelude.{◌≡◌, None};
 

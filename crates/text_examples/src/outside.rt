@@ -8,7 +8,7 @@ use sample_games::expectations::{holds, same};
 use std::alloc::{AllocError, Global};
 use std::test::Fail;
 
-/// The gates of these tests hold a worker for so many turns.
+/// The gates of these tests hold a worker for this many turns.
 const FEW_TURNS: u32 = 10;
 
 // Makes the two texts that each test holds.

@@ -8,7 +8,7 @@ use std::test::Fail;
 use std::thread::Threads;
 use stogame_app::Status;
 
-// A message shows so many bytes of a text.
+// A message shows at most this many bytes of a text.
 const SHOWN: usize = 160;
 
 // Finds the beginning of the first line in which the texts differ.

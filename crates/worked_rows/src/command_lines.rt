@@ -39,8 +39,8 @@ fn lists_write<R: Threads + Sync>(
     Ok(())
 }
 
-// No list is a command: words are missing, empty or surplus, an option is unknown, is given twice or has a value
-// missing or too many, or a number is out of range.
+// No list is a command: words are missing, empty or surplus, an option is unknown, is given twice, lacks its value or
+// has a surplus one, or a number is out of range.
 const NO_COMMAND: &[&[&str]] = &[
     &[],
     &["m.tra", "m.lab", REACH],

@@ -13,7 +13,7 @@ use std::test::Fail;
 use std::thread::Threads;
 use stogame_app::{Status, run};
 
-/// The sink takes so many bytes at once.
+/// The sink takes this many bytes at once.
 pub const STEP: usize = 7;
 
 /// A command is the check of a row, the audit of a certificate for the model and the formula of a row, the solution of
@@ -28,7 +28,7 @@ pub enum Command<'a> {
 }
 
 impl<'a> Command<'a> {
-    /// Names the command in a message by its kind and its formula. Words that name no file are named by the last word.
+    /// Names the command in a message by its kind and its formula, or by its last word if the words name no file.
     pub fn title(self) -> (&'a str, &'a str) {
         match self {
             Command::Check(row) => ("check", row.formula),

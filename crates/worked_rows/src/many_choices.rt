@@ -6,7 +6,7 @@ use std::test::Fail;
 use std::thread::Threads;
 use stogame_app::Status;
 
-// A state has at most so many choices.
+// A state has at most this many choices.
 const MOST: u32 = 16_384;
 
 // Makes a state with so many choices, each of which stays there.

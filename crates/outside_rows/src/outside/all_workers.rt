@@ -127,7 +127,8 @@ fn chain<'a>(formula: &'a str, numbers: &'a [&'a str]) -> Row<'a> {
     }
 }
 
-/// So many workers share the chain, and the last of them has so many of its states.
+/// Each row has a number of workers who share the chain, as a word and as a number, and how many states the last worker
+/// has.
 const TEAMS: [(&str, u32, u32); 4] = [("1", 1, 15), ("3", 3, 5), ("5", 5, 3), ("8", 8, 1)];
 
 /// Each formula is given with the number of times that its runs update all states if each has at most one round. A

@@ -1,4 +1,4 @@
-//! There are commands of each kind. Each call of the outside fails in turn under them.
+//! These are commands of each kind. Each call of the outside fails in turn while they run.
 
 ghost use Rattle.std.specs.Prelude.{◌<◌, IfOk};
 
@@ -144,7 +144,7 @@ const SURE_OF_AGREEMENT: Case<'static> = Case {
     status: Status::SomeFalse,
 };
 
-/// There are so many kinds of commands.
+/// This is the number of kinds of commands.
 const KINDS: usize = 14;
 
 // Numbers the kind of a command. A command that is added later does not compile until it is given a number here.

@@ -11,7 +11,7 @@ use worked_rows::{
     ends_over,
 };
 
-/// No command makes so many calls.
+/// No command makes this many calls.
 const MOST_CALLS: u64 = 1000;
 
 // A run without a fault gives what the case says.

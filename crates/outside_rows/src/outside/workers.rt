@@ -180,8 +180,8 @@ fn each_worker_passes_the_gate_before_its_own_state(rt: HostRuntime) -> Result<(
     none_strays(&rt, rt.alloc())
 }
 
-/// These formulas are inside, and their runs, of at most eight rounds, end after so many. A run asks after 1, 2, 4 and
-/// 8 rounds whether its threshold is settled at each state.
+/// Each formula is inside, and its run, of at most eight rounds, ends after this number of rounds. A run asks after 1,
+/// 2, 4 and 8 rounds whether its threshold is settled at each state.
 const SETTLED: [(&str, u32); 5] = [
     ("P>=0.25 [ F \"goal\" ]", 1),
     ("P>=0.3 [ F \"goal\" ]", 2),

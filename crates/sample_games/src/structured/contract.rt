@@ -4,7 +4,7 @@ use crate::draft::Draft;
 use game_model::Game;
 use std::alloc::Global;
 
-/// The protocol has so many stages.
+/// The protocol has this number of stages.
 const STAGES: u32 = 200;
 
 /// In this state a party has the advantage.

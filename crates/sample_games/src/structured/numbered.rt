@@ -3,7 +3,7 @@ use super::Model;
 use crate::draft::{Draft, merged};
 use std::alloc::Global;
 
-/// At most so many states are numbered.
+/// At most this many states are numbered.
 const MOST_NUMBERED: usize = 1_000;
 
 /// A state is given by what holds in it.

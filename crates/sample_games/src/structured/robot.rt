@@ -3,10 +3,10 @@ use super::Model;
 use crate::draft::{Draft, merged};
 use std::alloc::Global;
 
-/// A side of the grid has so many fields.
+/// A side of the grid has this many fields.
 const SIDE: u32 = 160;
 
-/// The grid has so many fields, which are numbered by rows.
+/// The grid has this many fields, which are numbered by rows.
 const FIELDS: u32 = SIDE * SIDE;
 
 /// The robot steers this way.

@@ -3,7 +3,7 @@ use super::Model;
 use super::numbered::{Situation, model_from};
 use std::alloc::Global;
 
-/// The counter goes so far each way from where it begins: the range is 4 by two processes.
+/// The counter goes this far each way from where it begins: the range is 4 by two processes.
 const REACH: u32 = 8;
 
 /// This is what a process has tossed and not yet counted.

@@ -36,7 +36,8 @@ pub record IsAnswered {S : Type 0} (held : S → Option Holding) (steady : S →
   -- A refusal is the first one of the command, and its cause is never want of memory.
   pub refused : (refusal : Refusal) → result ≡ Err (Refused refusal) → RefusesIt (held old) command refusal
   pub caused : EndsCaused result
-  -- A fault of reading comes only from the shelf, and over a steady shelf only if a text is not held.
+  -- A fault of reading is given only if the count of faults rose and the command reads files, and over a steady shelf
+  -- only if a text is not held.
   pub read_fault : IsErrOf result ReadFault → Rose (faults old) (faults new) × ReadsFiles command
   pub steadily : IsErrOf result ReadFault → steady old ≡ true → IfKnown (held old) (λ held. IsMissing held command)
   -- This says how much is taken from the last text.
