@@ -22,7 +22,7 @@ end_of_question (pose.UnknownLabel name) = Refused (OfQuestion (pose.UnknownLabe
 end_of_question (pose.UnknownPlayer name) = Refused (OfQuestion (pose.UnknownPlayer name))
 end_of_question pose.NoInit = Refused (OfQuestion pose.NoInit)
 
--- The answer is what is said, or memory was wanting.
+-- The answer is what is said, or memory ran out.
 abbrev pub Loads : {X Y : Type 0} → (X → Y) → Result X End → Said Y → Type 0
 Loads view (Ok x) said = said ≡ Denoted (view x)
 Loads view (Err OutOfMemory) said = Unit {0}
@@ -38,7 +38,7 @@ pub record LoadsText {X Y : Type 0} (holding : Option Holding) (steady : Bool) (
   pub steadily : steady ≡ true → IfKnown holding (λ held. source ≡ place held)
   pub loads : Loads view result (said source)
 
--- Loading refuses nothing for want of memory.
+-- Loading refuses nothing because memory ran out.
 abbrev pub EndsCaused : {X : Type 0} → Result X End → Type 0
 EndsCaused (Ok x) = Unit {0}
 EndsCaused (Err OutOfMemory) = Unit {0}
@@ -49,15 +49,15 @@ EndsCaused (Err (Refused refusal)) = IsCaused refusal
 abbrev pub IsTooLong : {X : Type 0} → Result X End → Type 0
 IsTooLong {X} result = (text : Text) × (result ≡ Err (Refused (TooLong text)))
 
--- A call that asks nothing of a shelf has no fault of reading, and refuses nothing for want of memory and nothing as
--- too long.
+-- A call that asks nothing of a shelf has no fault of reading, and refuses nothing because memory ran out and nothing
+-- as too long.
 pub record ReadsNothing {X : Type 0} (result : Result X End) : Type 0 where
   pub read : IsErrOf result ReadFault → ⊥
   pub caused : EndsCaused result
   pub short : IsTooLong result → ⊥
 
 -- This much is taken of the last text that loading reads. The text is refused as too long only if this is more than the
--- limit. If it is more, the text is refused as too long or memory is wanting.
+-- limit. If it is more, the text is refused as too long or memory runs out.
 pub record Takes {X : Type 0} (result : Result X End) (taken : ℕ) : Type 0 where
   pub most : taken ≤ most_bytes + piece_size
   pub too_long : IsTooLong result → most_bytes < taken

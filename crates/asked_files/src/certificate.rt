@@ -62,7 +62,7 @@ fn certificate_in(alloc: Global, question: &Question, bytes: &[u8]) -> Result<Pl
     }
 }
 
-// Returns whether memory was wanting.
+// Returns whether memory ran out.
 fn is_out_of_memory(fault: AuditFault) -> bool
     ensures { IsTrue result ↔ IsOutOfMemory fault }
 {

@@ -19,7 +19,7 @@ use std::alloc::Global;
 const SHARE: usize = 16;
 
 /// Gives the attractor of the goals, with chance on the maximiser's side, from the predecessors in the question's game.
-/// The only error is want of memory.
+/// The only error is that memory ran out.
 pub fn attractor_of<S: Bars>(
     alloc: Global,
     question: &Question,

@@ -31,7 +31,7 @@ pub struct Sweep {
 
 /// Gives the tables after exactly `steps` steps from an opening table: down steps for the lower one, up steps for the
 /// upper one. They are the same for every number of workers and every schedule. With no steps both are the opening
-/// table. The only error is want of memory.
+/// table. The only error is that memory ran out.
 ///
 /// Each step reads one table of bounds and writes another. With W workers, n is the number of states over W, rounded
 /// up: worker w has up to n states, from w times n on, and passes the gate before each of them. The first step may use

@@ -14,7 +14,7 @@ use std::alloc::{AllocError, Global};
 use std::thread::Threads;
 
 /// Gives what [`bounded`] gives from the table that iteration opens with. Exact steps from this table give the values
-/// of k steps. The only error is want of memory.
+/// of k steps. The only error is that memory ran out.
 pub fn bounded_values<R: Threads + Sync, G: Gate + Sync>(
     rt: &R,
     alloc: Global,

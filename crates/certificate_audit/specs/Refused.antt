@@ -49,6 +49,6 @@ IsRefused q text (Text fault) = entries_said text (states q) ≡ Err fault
 IsRefused q text (Upper fault) = IsFaulty q text (Upper fault)
 IsRefused q text (Ranks fault) = IsFaulty q text (Ranks fault)
 
--- Memory was wanting.
+-- Memory ran out.
 abbrev pub IsOutOfMemory : AuditFault → Type 0
 IsOutOfMemory fault = fault ≡ Text (fault_at 0 OutOfMemory)

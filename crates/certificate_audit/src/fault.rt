@@ -8,7 +8,7 @@ use rank_certificate::RankFault;
 /// choices and ranks.
 #[derive(Clone, Copy, Debug, PartialEq, Eq)]
 pub enum AuditFault {
-    /// The text has no certificate of the question's states, or memory was wanting.
+    /// The text has no certificate of the question's states, or memory ran out.
     Text(PlanFault),
     /// The upper table is not inductive, or a reply is not held to it.
     Upper(UpperFault),

@@ -89,7 +89,7 @@ pub enum CommandWords<'a> {
     Sure(AskedWords<'a>),
 }
 
-/// Gives the command that the words denote, or none if they denote no command. The only error is want of memory.
+/// Gives the command that the words denote, or none if they denote no command. The only error is that memory ran out.
 pub fn read_words(alloc: Global, words: &[String]) -> Result<Option<CommandWords<'_>>, OutOfMemory>
     ensures { IfOk result (λ read. MatchOption read (AreNoCommand (map string_bytes words.now))
         (λ command. AreCommand (map string_bytes words.now) (command_of command))) }

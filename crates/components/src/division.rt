@@ -34,7 +34,7 @@ impl Model for Components {
 impl Components {
     /// Finds the strongly connected components over the choices that are kept (Tarjan 1972). The members of each
     /// component follow the given order. States that this order lacks come behind them, by their numbers. The only
-    /// error is want of memory.
+    /// error is that memory ran out.
     pub fn of_question<K: Keeps>(
         alloc: Global,
         question: &Question,
@@ -100,7 +100,7 @@ impl Components {
 }
 
 /// Gives each state the number of its component, as [`Components::of_question`] finds it, without the lists of members.
-/// Each number is below the number of states. The only error is want of memory.
+/// Each number is below the number of states. The only error is that memory ran out.
 pub fn component_numbers<K: Keeps>(
     alloc: Global,
     question: &Question,

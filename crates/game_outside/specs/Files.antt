@@ -25,7 +25,7 @@ ReadsFile Answers holding name limit (Err TooLong) = IsHeldLonger holding name l
 ReadsFile Answers holding name limit (Err ReadFault) = Unit {0}
 ReadsFile Answers holding name limit (Err OutOfMemory) = Unit {0}
 
--- No refusal is for lack of memory, which `is_want` recognises.
+-- No refusal says that memory ran out, which `is_want` recognises.
 abbrev pub RefusesCaused : {X F : Type 0} → (F → Bool) → Result X (FileEnd F) → Type 0
 RefusesCaused is_want (Ok x) = Unit {0}
 RefusesCaused is_want (Err (Refused fault)) = is_want fault ≡ false

@@ -10,7 +10,7 @@ use std::alloc::Global;
 /// Makes the question of the other side, over the same game: the sides are exchanged, the states of the zero set are
 /// its goals, and the goals are its dead states. Its values and those of staying out of the zero set add up to 1
 /// (`game_model::laws::swap_law`), so its lower bounds give upper bounds of the question. The marks must be the
-/// question's zero set. The only error is want of memory.
+/// question's zero set. The only error is that memory ran out.
 pub fn swap<'g>(
     alloc: Global,
     question: &Question<'g>,

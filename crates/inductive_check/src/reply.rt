@@ -79,7 +79,7 @@ fn needs_reply(question: &Question, state: u32) -> bool
 
 /// Gives the first replies to a table that [`crate::check_upper`] passes: for each state of the minimiser that is
 /// neither a goal nor dead the first choice that is held to its entry, and none for each other state. The minimiser who
-/// plays them holds every opponent to the table at every horizon. The only error is want of memory.
+/// plays them holds every opponent to the table at every horizon. The only error is that memory ran out.
 pub fn replies(
     alloc: Global,
     question: &Question,

@@ -49,7 +49,7 @@ pub(crate) fn evaluate(
 }
 
 /// Adds to values of a policy what they miss, if an elimination takes little. What they miss is found from differences,
-/// which are nearly exact. The only error is want of memory, and then the values stay as they were.
+/// which are nearly exact. The only error is that memory ran out, and then the values stay as they were.
 pub fn refine(
     alloc: Global,
     game: &FloatGame,
@@ -84,7 +84,7 @@ fn add_missed(values: &mut [f64], missed: &[f64])
 }
 
 /// Returns for each node how many moves a policy is expected to make before it leaves, or nothing if this is not found.
-/// Ten per cent off is near enough. The only error is want of memory.
+/// Ten per cent off is near enough. The only error is that memory ran out.
 pub fn expected_moves(
     alloc: Global,
     game: &FloatGame,

@@ -12,8 +12,8 @@ use std::alloc::Global;
 const TIE: f64 = 0.000_000_000_000_001;
 
 /// Exchanges choices for ones that gain over values, if an elimination takes little: the minimiser's first, and the
-/// maximiser's if the minimiser has no exchange. Returns whether there is an exchange. The only error is want of
-/// memory.
+/// maximiser's if the minimiser has no exchange. Returns whether there is an exchange. The only error is that memory
+/// ran out.
 pub(crate) fn exchange(
     alloc: Global,
     game: &FloatGame,

@@ -5,8 +5,8 @@
 //! [`approach`] brings values nearer to those of a chain. It solves the equation that a pass in place (Gauss and
 //! Seidel) changes nothing. So a pass is the preconditioner, and a step takes two of them.
 //!
-//! Nothing promises how near values come. If memory is wanting, they stay as they were. If the steps go astray, they
-//! stay so or become the best that were seen.
+//! Nothing promises how near values come. If memory runs out, they stay as they were. If the steps go astray, they stay
+//! so or become the best that were seen.
 
 mod steps;
 mod updates;

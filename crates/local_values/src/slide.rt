@@ -28,7 +28,7 @@ pub struct Slide {
 /// Finds how far each node slides when a move costs this many units and each node has only its room. A policy may be
 /// expected to make more moves than floats count. Nodes that would slide further than their room stop there, and the
 /// others slide by the moves until the policy leaves or stops. Returns nothing if moves are not found. The only error
-/// is want of memory.
+/// is that memory ran out.
 pub fn find_slide(
     alloc: Global,
     game: &FloatGame,

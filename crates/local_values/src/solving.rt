@@ -27,7 +27,7 @@ const TURNS: u32 = 20;
 
 /// Brings values and a policy near those of the game, and values nearer from what they miss. If loops enlarge small
 /// differences, choices may tie in floats and still gain by differences. Then they are exchanged. The only error is
-/// want of memory.
+/// that memory ran out.
 pub fn solve_nearly(
     alloc: Global,
     game: &FloatGame,
@@ -51,7 +51,7 @@ pub fn solve_nearly(
 
 /// Brings values and a policy near those of the game when each move costs this many units. For lower values the initial
 /// policy of the maximiser should leave with probability 1, and the initial values should be low. Returns whether a
-/// sweep changes little in the end. The only error is want of memory.
+/// sweep changes little in the end. The only error is that memory ran out.
 pub fn solve(
     alloc: Global,
     game: &FloatGame,

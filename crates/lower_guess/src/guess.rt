@@ -40,7 +40,7 @@ pub const LAST_PLACE: u32 = 2;
 /// The guess is nowhere below the table, and k-step values come as near to it as one likes. A table is refused without
 /// a search for ranks if a state falls, which means that its down step is below its entry. For the first table of an
 /// excess each state takes a step, and for a later one only the predecessors of the states that fell. The time is no
-/// part of the contract. The only error is want of memory.
+/// part of the contract. The only error is that memory ran out.
 pub fn lower_guess<'a>(
     alloc: Global,
     question: &'a Question<'a>,
@@ -64,7 +64,7 @@ pub fn lower_guess<'a>(
 }
 
 /// Gives the guess of [`lower_guess`] for a caller that has the lists of predecessors of the question's game. The only
-/// error is want of memory.
+/// error is that memory ran out.
 pub fn lower_guess_over<'a>(
     alloc: Global,
     question: &'a Question<'a>,

@@ -31,7 +31,7 @@ pub struct Approach {
 
 impl Approach {
     /// Finds the states of positive value in the order in which they join. A state of the maximiser joins by its first
-    /// choice that leads on, and one of the minimiser when all its choices do. The only error is want of memory.
+    /// choice that leads on, and one of the minimiser when all its choices do. The only error is that memory ran out.
     pub(crate) fn of_question(
         alloc: Global,
         question: &Question,

@@ -25,7 +25,7 @@ const TURNS: u32 = 6;
 
 /// Finds what a solver takes for lower and upper bounds of a question, over the predecessors in its game, when the
 /// states of value 1 and those of value 0 are known. If these are all states, the tables are empty. Values to begin
-/// with, one for each state, are only hints: upper values begin with them. The only error is want of memory.
+/// with, one for each state, are only hints: upper values begin with them. The only error is that memory ran out.
 pub fn find_bounds(
     alloc: Global,
     question: &Question,

@@ -106,7 +106,8 @@ impl EndComponents {
 }
 
 /// Finds the end components of the open states when the minimiser plays its replies: the traps of the question in which
-/// all others are dead. Mostly no choice can stay for ever, and nothing is searched. The only error is want of memory.
+/// all others are dead. Mostly no choice can stay for ever, and nothing is searched. The only error is that memory ran
+/// out.
 pub(crate) fn find_end_components(
     alloc: Global,
     frame: &Frame<'_, '_>,

@@ -119,6 +119,6 @@ certificate_from states number (line ∷ lines) =
 abbrev pub entries_said : List ℕ → ℕ → Result (List Entry) PlanFault
 entries_said text states = certificate_from states 1 (significant (lines_of text))
 
--- Memory was wanting, which is no fault of the text.
+-- Memory ran out, which is no fault of the text.
 abbrev pub IsOutOfMemory : PlanFault → Type 0
 IsOutOfMemory fault = fault ≡ fault_at 0 OutOfMemory

@@ -3,7 +3,7 @@
 /// The text of a certificate is refused for one of these causes.
 #[derive(Clone, Copy, Debug, PartialEq, Eq)]
 pub enum PlanCause {
-    /// Memory was wanting.
+    /// Memory ran out.
     OutOfMemory,
     /// No line has the first field `certificate`.
     NoCertificate,
@@ -19,8 +19,7 @@ pub enum PlanCause {
     MissingLine,
 }
 
-/// A certificate's text has a fault at a line. Lines count from 1. Line 0 means the whole text, or that memory was
-/// wanting.
+/// A certificate's text has a fault at a line. Lines count from 1. Line 0 means the whole text, or that memory ran out.
 #[derive(Clone, Copy, Debug, PartialEq, Eq)]
 pub struct PlanFault {
     /// This is the number of the line.
@@ -33,7 +32,7 @@ impl PlanFault {
     ghost use Rattle.std.specs.Prelude.{◌≡◌};
     ghost use Rattle.plan_text.specs.Said.{fault_at};
 
-    /// Makes the fault that memory was wanting.
+    /// Makes the fault that memory ran out.
     pub(crate) fn out_of_memory() -> PlanFault
         ensures { result ≡ fault_at 0 PlanCause.OutOfMemory }
     {

@@ -14,7 +14,7 @@ use std::alloc::Global;
 
 /// Gives the text of a certificate. The first line is `certificate 2 N`. Then each of the N states has a line, by
 /// rising number: the state, the lower bound, the maximiser's choice, the rank, the upper bound and the minimiser's
-/// choice, with one space between them. The only error is want of memory.
+/// choice, with one space between them. The only error is that memory ran out.
 pub fn write_plan(alloc: Global, plan: &Plan) -> Result<Vec<u8>, OutOfMemory>
     requires lists { HasStates plan.now (length plan.now.lower.items) }
     requires some { 1 ≤ length plan.now.lower.items }
@@ -27,7 +27,7 @@ pub fn write_plan(alloc: Global, plan: &Plan) -> Result<Vec<u8>, OutOfMemory>
     Ok(text)
 }
 
-/// Appends the text of [`write_plan`] to a text. The only error is want of memory.
+/// Appends the text of [`write_plan`] to a text. The only error is that memory ran out.
 pub fn append_plan(text: &mut Vec<u8>, plan: &Plan) -> Result<(), OutOfMemory>
     requires lists { HasStates plan.now (length plan.now.lower.items) }
     requires some { 1 ≤ length plan.now.lower.items }

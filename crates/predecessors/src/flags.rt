@@ -25,7 +25,7 @@ impl Model for ChoiceFlags {
 
 impl ChoiceFlags {
     /// Asks the test about each choice, by its state and its place among the choices of that state, and keeps the
-    /// answers. The only error is want of memory.
+    /// answers. The only error is that memory ran out.
     pub fn of_game<F: Fn(u32, u32) -> bool>(
         alloc: Global,
         game: &Game,

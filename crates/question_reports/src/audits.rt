@@ -19,7 +19,7 @@ use verdicts::How;
 use verdicts::laws::{mirrored_verdicts_are_those_of_the_dual, undecided_thresholds_are_left_open};
 
 /// Writes one line for each initial state, with the numbers of a certificate that was accepted, and what they say of a
-/// formula. The only error is want of memory.
+/// formula. The only error is that memory ran out.
 pub fn audit_report(
     alloc: Global,
     question: &Question,

@@ -20,7 +20,7 @@ use run_answers::{Answer, Status};
 use std::alloc::{AllocError, Global};
 use std::thread::Threads;
 
-/// Computes the bracket of the drawn question and summarises it. The only error is want of memory.
+/// Computes the bracket of the drawn question and summarises it. The only error is that memory ran out.
 pub fn drawn_report<R: Threads + Sync, G: Gate + Sync>(
     rt: &R,
     alloc: Global,

@@ -24,7 +24,7 @@ use verdicts::How;
 
 /// Writes a line that says how many formulas are inside and how many pairs of one of them and a state are left
 /// undecided, and then a line for each of these initial states. Questions without a bound on the steps are answered in
-/// this way. The only error is want of memory.
+/// this way. The only error is that memory ran out.
 pub fn nested_report<R: Threads + Sync, G: Gate + Sync>(
     rt: &R,
     alloc: Global,

@@ -41,7 +41,7 @@ pub struct Formulas<'a> {
 /// Writes one line for each initial state, with the bounds after at most the asked rounds and what they say of the
 /// formula's bound. The upper bounds are lowered to the best exits of traps if that is asked for. The certificate
 /// follows if it is asked for. The question is that of the answered formula, which for `G` is the dual, else the same.
-/// The only error is want of memory.
+/// The only error is that memory ran out.
 pub fn bracket_report<R: Threads + Sync, G: Gate + Sync>(
     rt: &R,
     alloc: Global,

@@ -22,7 +22,8 @@ use verdicts::laws::{mirrored_verdicts_are_those_of_the_dual, undecided_threshol
 /// Writes one line for each initial state, with the bounds of a plan that passes an audit and is sound, and what they
 /// say of the formula's bound. The certificate follows if it is asked for. If the bounds are far apart at an initial
 /// state, they are compared with those of rounds. The question is that of the answered formula, which for `G` is the
-/// dual, else the same. Values to begin with, one for each state, are only hints. The only error is want of memory.
+/// dual, else the same. Values to begin with, one for each state, are only hints. The only error is that memory ran
+/// out.
 pub fn solved_report<R: Threads + Sync, G: Gate + Sync>(
     rt: &R,
     alloc: Global,

@@ -23,7 +23,7 @@ pub struct SureReport {
     pub all: bool,
 }
 
-/// Lists the states from which a goal is reached almost surely, as text. The only error is want of memory.
+/// Lists the states from which a goal is reached almost surely, as text. The only error is that memory ran out.
 pub fn sure_report(
     alloc: Global,
     question: &Question,

@@ -24,7 +24,7 @@ use std::thread::Threads;
 use verdicts::How;
 use verdicts::laws::verdicts_of_fractions_are_right;
 
-/// Reports on `F<=k` and `U<=k` from the values of k steps. The only error is want of memory.
+/// Reports on `F<=k` and `U<=k` from the values of k steps. The only error is that memory ran out.
 pub fn within_report<R: Threads + Sync, G: Gate + Sync>(
     rt: &R,
     alloc: Global,
@@ -56,7 +56,7 @@ pub fn within_report<R: Threads + Sync, G: Gate + Sync>(
 }
 
 /// Reports on `X` from the probabilities that the next state is one of those of an opening table. The only error is
-/// want of memory.
+/// that memory ran out.
 pub fn next_report<R: Threads + Sync, G: Gate + Sync>(
     rt: &R,
     alloc: Global,

@@ -16,7 +16,7 @@ use std::alloc::Global;
 /// ([`crate::check_ranks`]). A rank is 0 at goals, dead states and states of value 0. Elsewhere it is the least number
 /// from 1 up such that the choice of the maximiser, or every choice of the minimiser, has a successor of greater value,
 /// or one of equal value and smaller rank. The search is that of [`crate::rank_table`], except that the maximiser may
-/// take only these choices. The time is no part of the contract. The only error is want of memory.
+/// take only these choices. The time is no part of the contract. The only error is that memory ran out.
 pub fn find_ranks(
     alloc: Global,
     question: &Question,
@@ -34,7 +34,7 @@ pub fn find_ranks(
 }
 
 /// Gives the ranks of [`find_ranks`] for a caller that has the lists of predecessors of the question's game. The only
-/// error is want of memory.
+/// error is that memory ran out.
 pub fn find_ranks_over(
     alloc: Global,
     question: &Question,

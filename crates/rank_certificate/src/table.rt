@@ -35,7 +35,7 @@ pub struct RankPlan {
 ///
 /// A state whose down step is below its value refuses the values at once. If there is no such state, the search goes
 /// backward from the states of rank 0: it looks at a state again only when a successor got a rank, or a large part of
-/// all states did. The time is no part of the contract. The only error is want of memory.
+/// all states did. The time is no part of the contract. The only error is that memory ran out.
 pub fn rank_table(
     alloc: Global,
     question: &Question,
@@ -52,7 +52,7 @@ pub fn rank_table(
 }
 
 /// Gives the plan of [`rank_table`] for a caller that has the lists of predecessors of the question's game. The only
-/// error is want of memory.
+/// error is that memory ran out.
 pub fn rank_table_over(
     alloc: Global,
     question: &Question,
@@ -77,7 +77,7 @@ pub fn rank_table_over(
 }
 
 /// Gives the plan of [`rank_table_over`] for a caller that knows that no state refuses the values at once: a goal has
-/// the unit, and no down step is below its value. The only error is want of memory.
+/// the unit, and no down step is below its value. The only error is that memory ran out.
 pub fn rank_standing(
     alloc: Global,
     question: &Question,

@@ -27,7 +27,7 @@ pub struct Answer {
 
 /// Reports on some states: one line for each, with the bounds that two tables have, in units, and what these say of a
 /// bound. If the tables are mirrored, they are those of the dual of `G`, and 1 less their bounds is printed. The only
-/// error is want of memory.
+/// error is that memory ran out.
 pub fn report_of(
     alloc: Global,
     mirrored: bool,

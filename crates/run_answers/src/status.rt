@@ -20,7 +20,7 @@ pub enum Status {
     ReadFault,
     /// The output can't be written.
     WriteFault,
-    /// Memory was wanting. Nothing was written.
+    /// Memory ran out. Nothing was written.
     OutOfMemory,
     /// The certificate is refused.
     CertificateRefused,

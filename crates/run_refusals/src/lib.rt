@@ -4,8 +4,8 @@
 //! formula, with the place, of the question, of a certificate, or of values to begin with. [`refusal_line`] is its
 //! line, with the printed name of the cause and what it carries, and [`usage_line`] is the line for words that denote
 //! no command. No two refusals have one line ([`laws`]): numbers of at most 64 digits are written in full, and
-//! [`Refusal::known`] says that a refusal's numbers are. The readers also end for want of memory, which is no fault of
-//! what was given: `specs/Caused.antt` says which refusals are not for it.
+//! [`Refusal::known`] says that a refusal's numbers are. The readers also end because memory ran out, which is no fault
+//! of what was given: `specs/Caused.antt` says which refusals are not for it.
 #![tactic(auto)]
 
 mod causes;

@@ -26,7 +26,7 @@ pub struct Held {
 }
 
 /// Returns the upper table of a candidate if it is inductive, and else that of an empty candidate, with the first
-/// replies to it. The only error is want of memory.
+/// replies to it. The only error is that memory ran out.
 pub fn held_table(
     alloc: Global,
     question: &Question,

@@ -38,7 +38,7 @@ pub struct Candidates {
 /// Elsewhere the lower table is the candidate's, less than 1, if some choices and ranks vouch for the whole table, and
 /// else 0. The upper table is the candidate's, from one unit to 1, if the whole table is inductive, and else 1. The
 /// choices and ranks are those of `rank_certificate::rank_table`. A state that needs no choice or reply has none. The
-/// only error is want of memory.
+/// only error is that memory ran out.
 pub fn hand_out(
     alloc: Global,
     question: &Question,

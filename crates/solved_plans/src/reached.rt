@@ -28,7 +28,7 @@ pub struct Reached {
 }
 
 /// Returns the lower table of a candidate if some choices and ranks vouch for it, and else that of an empty candidate.
-/// The only error is want of memory.
+/// The only error is that memory ran out.
 pub fn reached_table(
     alloc: Global,
     question: &Question,

@@ -30,7 +30,7 @@ use zero_sets::zero_set_over;
 ///
 /// A state of `starts` is asked about if its bounds do not settle the bound. If they are far apart at one such state,
 /// one worker makes rounds and passes the gate before each state. Then each side takes the better table: the upper one
-/// state by state, the lower one by its sum over these states. The only error is want of memory.
+/// state by state, the lower one by its sum over these states. The only error is that memory ran out.
 pub fn solve_question<R: Threads + Sync, G: Gate + Sync>(
     rt: &R,
     alloc: Global,

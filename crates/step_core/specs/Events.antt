@@ -113,7 +113,7 @@ abbrev pub first_of : List (Bool × Refused) → Option Refused
 first_of [] = None
 first_of (reason ∷ others) = if reason.0 then Some reason.1 else first_of others
 
--- An event that is taken has no reason against it. One that is refused has this reason, or memory was wanting.
+-- An event that is taken has no reason against it. One that is refused has this reason, or memory ran out.
 abbrev pub Answers : Result (Unit {0}) Refused → Option Refused → Type 0
 Answers (Ok _) said = said ≡ None
 Answers (Err refused) said = (refused ≡ OutOfMemory) ⊎ (said ≡ Some refused)

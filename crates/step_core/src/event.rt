@@ -31,10 +31,10 @@ pub enum Event {
     },
 }
 
-/// This is why an event is refused. Unless memory was wanting, it is the first reason that holds, in this order.
+/// This is why an event is refused. Unless memory ran out, it is the first reason that holds, in this order.
 #[derive(Clone, Copy, Debug, PartialEq, Eq)]
 pub enum Refused {
-    /// Memory was wanting.
+    /// Memory ran out.
     OutOfMemory,
     /// A named view is not live.
     NoView,

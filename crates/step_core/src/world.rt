@@ -63,7 +63,7 @@ impl<'q> World<'q> {
     }
 
     /// Takes an event, or refuses it and stays as it was. An event that is not lawful is refused for the first reason
-    /// that holds. Any event may be refused for want of memory.
+    /// that holds. Any event may be refused because memory ran out.
     pub fn apply(&mut self, event: Event) -> Result<(), Refused>
         requires { HasRoom self.old event }
         ensures answer { Answers result (first_of (reasons self.old event)) }

@@ -27,8 +27,8 @@ use Rattle.stogame_app.specs.Reports.{IsReportOfWords}
 abbrev pub IsLong : Refusal → Type 0
 IsLong refusal = (text : Text) × (refusal ≡ TooLong text)
 
--- The words denote a command of which this is the first refusal, and its cause is not want of memory. It says that a
--- text is too long exactly if more than `most_bytes` bytes were taken from the last text.
+-- The words denote a command of which this is the first refusal, and its cause is not that memory ran out. It says that
+-- a text is too long exactly if more than `most_bytes` bytes were taken from the last text.
 pub record RefusesWords (words : List (List ℕ)) (holding : Option Holding) (taken : ℕ)
     (refusal : Refusal) : Type 0 where
   pub command : Command
@@ -79,8 +79,8 @@ pub record WritesFront (old new : Option (List ℕ)) (IsText : List ℕ → Type
   pub grows : GrowsByPrefix old new text
 
 -- A run with these words ends with this status and turns the first output into the second. It has written a report, a
--- refusal or the usage line; or it ended with a fault of reading or for want of memory and wrote nothing; or it ended
--- with a fault of writing.
+-- refusal or the usage line; or it ended with a fault of reading or because memory ran out and wrote nothing; or it
+-- ended with a fault of writing.
 abbrev pub IsEnding : List (List ℕ) → Option Holding → ℕ → Option (List ℕ) → Option (List ℕ) → Status → Type 0
 IsEnding words holding taken old new Fine = Writes old new (λ text. IsReportOfWords words holding taken text Fine)
 IsEnding words holding taken old new SomeFalse =
@@ -127,7 +127,7 @@ pub record AsksShelf {S : Type 0} (held : S → Option Holding) (steady : S → 
 -- 4. What is made for words.
 
 -- What was made is the report of the command that the words denote, or its refusal, or a text of it could not be read,
--- or memory was wanting.
+-- or memory ran out.
 abbrev pub AnswersWords : List (List ℕ) → Option Holding → ℕ → Result Answer End → Type 0
 AnswersWords words holding taken (Ok answer) = IsReportOfWords words holding taken answer.text.items answer.status
 AnswersWords words holding taken (Err end.OutOfMemory) = Unit {0}

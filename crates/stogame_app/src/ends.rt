@@ -40,7 +40,7 @@ pub fn end_with_usage<K: Sink>(alloc: Global, out: &mut K) -> Status
     }
 }
 
-/// Writes the answer to a command, or the line of its refusal. If a text can't be read or memory is wanting, only the
+/// Writes the answer to a command, or the line of its refusal. If a text can't be read or memory runs out, only the
 /// status tells it.
 pub fn end_run<K: Sink>(alloc: Global, out: &mut K, made: Result<Answer, End>) -> Status
     requires { IfOk made (λ answer. IsAnswer answer.status) }

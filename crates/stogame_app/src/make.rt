@@ -14,7 +14,8 @@ use run_answers::Answer;
 use std::alloc::Global;
 use std::thread::Threads;
 
-/// Answers `make` with a summary of the bracket of the drawn game. The only end without an answer is want of memory.
+/// Answers `make` with a summary of the bracket of the drawn game. The only end without an answer is that memory ran
+/// out.
 pub fn answer_make<R: Threads + Sync, G: Gate + Sync>(
     rt: &R,
     alloc: Global,

@@ -41,7 +41,7 @@ impl<'a, R: Files> FileShelf<'a, R> {
         }
     }
 
-    /// Returns the name of the file that was begun last, unless memory was wanting for it.
+    /// Returns the name of the file that was begun last, unless memory ran out for it.
     pub fn name(&self) -> Option<&str>
         ensures { option_map (λ name. name.now) result ≡ option_map string_bytes self.now.name }
     {

@@ -38,7 +38,7 @@ const NEAR: f64 = 200.0;
 
 /// Rounds values of a component to entries that hold. The maximiser's choices of a lower table are planned by the
 /// policy, and by that of other values if these are rounded. It returns false if nothing holds soon, and the entries
-/// are then 0, or the unit in an upper table. The only error is want of memory.
+/// are then 0, or the unit in an upper table. The only error is that memory ran out.
 pub fn round_component(
     alloc: Global,
     setting: &Setting<'_, '_>,

@@ -23,8 +23,8 @@ use predecessors::Predecessors;
 use std::alloc::Global;
 
 /// Lowers the table at the states of each trap to the trap's best exit over the given table. The lowered table passes
-/// the check that the table passed, with the same replies, so it is above every k-step value. The only error is want of
-/// memory.
+/// the check that the table passed, with the same replies, so it is above every k-step value. The only error is that
+/// memory ran out.
 pub fn lower_traps(
     alloc: Global,
     question: &Question,
@@ -49,8 +49,8 @@ pub fn lower_traps(
     lower_traps_over(alloc, question, &predecessors, upper, replies)
 }
 
-/// Lowers the table as [`lower_traps`] does, over lists of predecessors that the caller has. The only error is want of
-/// memory.
+/// Lowers the table as [`lower_traps`] does, over lists of predecessors that the caller has. The only error is that
+/// memory ran out.
 pub fn lower_traps_over(
     alloc: Global,
     question: &Question,

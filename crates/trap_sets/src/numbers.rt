@@ -30,7 +30,7 @@ pub struct TrapSets {
 
 /// Finds the traps of a question whose minimiser plays these replies. They are exactly the greatest end components,
 /// numbered by least state, so every end component lies in one. The replies of other states are not read, and a state
-/// of the minimiser with no reply in range is in no trap. The only error is want of memory.
+/// of the minimiser with no reply in range is in no trap. The only error is that memory ran out.
 pub fn traps(
     alloc: Global,
     question: &Question,
@@ -43,7 +43,8 @@ pub fn traps(
     traps_over(alloc, question, &predecessors, replies)
 }
 
-/// Finds the traps as [`traps`] does, over lists of predecessors that the caller has. The only error is want of memory.
+/// Finds the traps as [`traps`] does, over lists of predecessors that the caller has. The only error is that memory ran
+/// out.
 pub fn traps_over(
     alloc: Global,
     question: &Question,

@@ -40,7 +40,7 @@ pub use tables::{Alone, UpTables};
 pub use witnesses::Witnesses;
 
 /// Gives the first guess that is accepted: by excess and then by up steps the first table whose up step is nowhere
-/// above it. The only error is want of memory.
+/// above it. The only error is that memory ran out.
 pub fn guess<'a>(
     alloc: Global,
     question: &'a Question<'a>,

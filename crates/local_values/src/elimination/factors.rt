@@ -23,8 +23,8 @@ pub struct Factors {
 impl Factors {
     ghost use Rattle.local_values.specs.Rows.{rows_of, LeavesNothing};
 
-    /// Finds the factors of a chain whose edges stay in this band. Other edges are left out. The only error is want of
-    /// memory.
+    /// Finds the factors of a chain whose edges stay in this band. Other edges are left out. The only error is that
+    /// memory ran out.
     pub fn of_chain(alloc: Global, chain: &Chain, band: Band) -> Result<Factors, OutOfMemory>
         requires { band.back + band.forth + 1 < 2 ^ 32 }
         ensures { IfOk result (λ f. rows_of f ≡ nodes_in chain.now) }

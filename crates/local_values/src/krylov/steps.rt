@@ -18,7 +18,7 @@ const ASTRAY: f64 = 1_000_000.0;
 
 /// Brings values nearer to those of a chain, by at most `most` steps, until a pass changes none by more than `enough`.
 /// Each value is then about the sum of its node, plus the values of its successors by their shares. Returns what a pass
-/// still changes. The only error is want of memory.
+/// still changes. The only error is that memory ran out.
 pub fn approach(
     alloc: Global,
     chain: &Chain,

@@ -33,7 +33,7 @@ pub record IsAnswered {S : Type 0} (held : S → Option Holding) (steady : S →
   pub answered : (words : List (List ℕ)) → AreCommand words command
       → IfOk result (λ answer. IsReportOfWords words (held old) (took new) answer.text.items answer.status)
   pub status : IfOk result (λ answer. IsAnswer answer.status)
-  -- A refusal is the first one of the command, and its cause is never want of memory.
+  -- A refusal is the first one of the command, and its cause is never that memory ran out.
   pub refused : (refusal : Refusal) → result ≡ Err (Refused refusal) → RefusesIt (held old) command refusal
   pub caused : EndsCaused result
   -- A fault of reading is given only if the count of faults rose and the command reads files, and over a steady shelf
