@@ -1,0 +1,40 @@
+-- These definitions give the rewards that texts spell. A reward is spelled as a probability is, but it may be greater.
+use Rattle.std.specs.Prelude.{ℕ, ◌*◌, ◌==◌, ◌≤◌, nat_lt, List, Option, Some, None, Result, Ok, Err, if◌then◌else◌}
+use Rattle.std.specs.Int.{IsGcd}
+use Rattle.fractions.specs.declared.number.NumberFault.TheVariants.{NotANumber, TooManyDigits, ZeroDenominator, TooFine}
+use Rattle.fractions.specs.Fraction.{Fraction, lowest}
+use Rattle.fractions.specs.Limits.{finest}
+use Rattle.fractions.specs.Number.{Spelling, spelling_of, is_long, value_of}
+use Rattle.rewards_reader.specs.declared.fault.RewardsCause.{RewardsCause}
+use Rattle.rewards_reader.specs.declared.fault.RewardsCause.TheVariants.{Number, TooLarge}
+use Rattle.rewards_reader.specs.Limits.{most_reward}
+
+-- These facts hold for every reward of the program.
+pub record IsAmount (f : Fraction) : Type 0 where
+  pub lowest : IsGcd f.num f.den 1
+  pub positive : 1 ≤ f.den
+  pub fine : f.den ≤ finest
+  pub small : f.num ≤ most_reward * f.den
+
+-- This is the reward 0.
+abbrev pub no_reward : Fraction
+no_reward = record { num = 0; den = 1 }
+
+-- This is a fraction in lowest terms if it may be a reward, or its first fault.
+abbrev pub amount_within : Fraction → Result Fraction RewardsCause
+amount_within f = if nat_lt finest f.den then Err (Number TooFine) else
+    (if nat_lt (most_reward * f.den) f.num then Err TooLarge else Ok f)
+
+-- This is the fraction of the same value in lowest terms, or its first fault: its denominator is 0, or it may be no
+-- reward.
+abbrev pub amount_of : Fraction → Result Fraction RewardsCause
+amount_of f = if f.den == 0 then Err (Number ZeroDenominator) else amount_within (lowest f)
+
+-- This is the reward that a spelling gives, or its first fault. Without a spelling the text is no number.
+abbrev pub spelled_amount : Option Spelling → Result Fraction RewardsCause
+spelled_amount None = Err (Number NotANumber)
+spelled_amount (Some spelling) = if is_long spelling then Err (Number TooManyDigits) else amount_of (value_of spelling)
+
+-- This is the reward that a text spells, or its first fault.
+abbrev pub amount_said : List ℕ → Result Fraction RewardsCause
+amount_said text = spelled_amount (spelling_of text)

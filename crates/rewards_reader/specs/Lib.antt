@@ -1,0 +1,6 @@
+pub mod Limits
+pub mod Amounts
+pub mod Lines
+pub mod Texts
+pub mod Rewards
+pub mod inside

@@ -1,0 +1,96 @@
+//! This module has numbers above 2 as rewards.
+
+ghost use Rattle.std.specs.Prelude.{◌≡◌, ◌≤◌, ◌<◌, ◌+◌, ◌*◌, ◌^◌, true, Some, Err, length};
+ghost use Rattle.std.specs.Int.{IsGcd};
+ghost use Rattle.text_lines.specs.Text.{all_digits, value_onto};
+ghost use Rattle.fractions.specs.Limits.{finest, most_digits};
+ghost use Rattle.fractions.specs.Number.{fraction_said, spelling_said, Decimal, Quotient};
+ghost use Rattle.rewards_reader.specs.Amounts.{amount_of, amount_within, spelled_amount};
+ghost use Rattle.rewards_reader.specs.inside.Written.{exponent_in};
+
+use crate::amount::Amount;
+use crate::divisor::greatest_common_divisor;
+use crate::fault::RewardsCause;
+use crate::limits::{MOST_REWARD, MOST_REWARD_TENS};
+use crate::spelling::Power;
+use fractions::NumberFault;
+
+/// Gives the reward of a decimal above 2, or its fault.
+pub fn large_decimal(front: &[u8], back: &[u8], power: Power<'_>) -> Result<Amount, RewardsCause>
+    requires front { all_digits front.now ≡ true }
+    requires back { all_digits back.now ≡ true }
+    requires power { all_digits power.digits.now ≡ true }
+    requires large { spelling_said (Some (Decimal front.now back.now (exponent_in power))) ≡ Err NumberFault.TooLarge }
+    ensures { result ≡ spelled_amount (Some (Decimal front.now back.now (exponent_in power.entry))) }
+{
+    let digits = digits_onto(digits_onto(0, front), back);
+    let places = back.len() as u32;
+    let size = digits_onto(0, power.digits) as u32;
+    if power.below {
+        large_over_tens(digits, 0, places + size)
+    } else {
+        large_over_tens(digits, size, places)
+    }
+}
+
+/// Gives the reward of a fraction above 2, or its fault.
+pub fn large_quotient(above: &[u8], below: &[u8]) -> Result<Amount, RewardsCause>
+    requires above { all_digits above.now ≡ true }
+    requires below { all_digits below.now ≡ true }
+    requires large { spelling_said (Some (Quotient above.now below.now)) ≡ Err NumberFault.TooLarge }
+    ensures { result ≡ spelled_amount (Some (Quotient above.now below.now)) }
+{
+    reduced(digits_onto(0, above), digits_onto(0, below))
+}
+
+// Gives the number whose digits are those of a number and then these.
+fn digits_onto(before: u128, digits: &[u8]) -> u128
+    requires digits { all_digits digits.now ≡ true }
+    requires small { (before + 1) * 10 ^ length digits.now ≤ 10 ^ most_digits }
+    ensures value { result ≡ value_onto before digits.now }
+    ensures small { result + 1 ≤ (before + 1) * 10 ^ length digits.now }
+{
+    let mut value = before;
+    for b in digits {
+        value = 10 * value + u128::from(b - b'0');
+    }
+    value
+}
+
+// Gives the reward of digits times a power of ten, over a power of ten, or its fault. It is above 2, so it has more
+// digits than places.
+fn large_over_tens(digits: u128, up: u32, down: u32) -> Result<Amount, RewardsCause>
+    requires small { digits < 10 ^ most_digits }
+    requires large { fraction_said (record { num = digits * 10 ^ up; den = 10 ^ down }) ≡ Err NumberFault.TooLarge }
+    ensures { result ≡ amount_of (record { num = digits * 10 ^ up; den = 10 ^ down }) }
+{
+    if up <= down {
+        return reduced(digits, 10u128.pow(down - up));
+    }
+    if up - down > MOST_REWARD_TENS || digits > MOST_REWARD {
+        return Err(RewardsCause::TooLarge);
+    }
+    checked(digits * 10u128.pow(up - down), 1)
+}
+
+// Gives the reward of a fraction above 2, or its fault.
+fn reduced(above: u128, below: u128) -> Result<Amount, RewardsCause>
+    requires { fraction_said (record { num = above; den = below }) ≡ Err NumberFault.TooLarge }
+    ensures { result ≡ amount_of (record { num = above; den = below }) }
+{
+    let divisor = greatest_common_divisor(above, below);
+    checked(above / divisor, below / divisor)
+}
+
+// Gives the reward of a fraction in lowest terms, unless it is too large.
+fn checked(num: u128, den: u128) -> Result<Amount, RewardsCause>
+    requires lowest { IsGcd num den 1 }
+    requires positive { 1 ≤ den }
+    requires fine { den ≤ finest }
+    ensures { result ≡ amount_within (record { num = num; den = den }) }
+{
+    if num > MOST_REWARD * den {
+        return Err(RewardsCause::TooLarge);
+    }
+    Ok(Amount::of(num, den))
+}
