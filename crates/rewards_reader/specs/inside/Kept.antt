@@ -36,7 +36,7 @@ IsEndAt number said (Refused fault) = IsFaultAt number said fault
 
 -- The line is the header, behind which nothing is kept yet.
 pub record Begins (game : List (List Distribution)) (line : List ℕ) (table : RewardTable) : Type 0 where
-  pub game : table.game.now ≡ game
+  pub of_game : table.game.now ≡ game
   pub stated : header_said game (fields_of line) ≡ Ok table.stated
   pub kept : IsKept table []
 

@@ -1,0 +1,305 @@
+-- What is said of a number and of a reward.
+use Rattle.std.proofs.Common.{◌≡◌, ◌≢◌, ◌∙◌, ◌≤◌, ◌<◌, ◌+◌, ◌-◌, ◌*◌, ◌^◌, ◌⊎◌, inl, inr, ℕ, suc, zero, List, ◌++◌, refl, ap}
+use Rattle.std.proofs.Common.{sym, subst, Bool, true, false, cond, Option, Some, None, Result, Ok, Err, length, arith}
+use Rattle.std.specs.Prelude.{◌==◌, ◌||◌, nat_lt}
+use Rattle.std.proofs.lemmas.Bool.{lt-ltb}
+use Rattle.std.proofs.lemmas.Bool.Decides.{nat_tests}
+use Rattle.std.proofs.Math.Nat.{mul-le-mul_left, mul-le-mul_right}
+use Rattle.text_lines.specs.Text.{value_onto}
+use Rattle.fractions.specs.declared.number.NumberFault.{NumberFault}
+use Rattle.fractions.specs.declared.number.NumberFault.TheVariants as number
+use Rattle.fractions.specs.Limits.{finest, most_value, most_digits, most_exponent, most_exponent_digits}
+use Rattle.fractions.specs.Fraction.{Fraction, lowest}
+use Rattle.fractions.specs.Number.{Exponent, Spelling, Decimal, Quotient, value_of, is_long, in_range, fraction_said}
+use Rattle.fractions.specs.Number.{spelling_said, spelling_of, number_said}
+use Rattle.fractions.proofs.Euclid.{lowest-value, lowest-pos}
+use Rattle.fractions.proofs.Grammar.{chosen}
+use Rattle.fractions.proofs.Powers.{pow-pos, pow-rises}
+use Rattle.fractions.proofs.Spelled.{value_append}
+use Rattle.fractions.proofs.Terms.{lowest-shifted, lowest-whole, said-above_zero}
+use Rattle.rewards_reader.specs.declared.fault.RewardsCause.{RewardsCause}
+use Rattle.rewards_reader.specs.declared.fault.RewardsCause.TheVariants.{Number, TooLarge}
+use Rattle.rewards_reader.specs.Limits.{most_reward}
+use Rattle.rewards_reader.specs.Amounts.{amount_within, amount_of, spelled_amount, amount_said}
+
+ge-from : (a b : ℕ) → nat_lt a b ≡ false → b ≤ a
+ge-from a b e = grind (arith, nat_tests)
+
+lt-from : (a b : ℕ) → nat_lt a b ≡ true → a < b
+lt-from a b e = grind (arith, nat_tests)
+
+ge-test : (a b : ℕ) → b ≤ a → nat_lt a b ≡ false
+ge-test a b h = grind (arith, nat_tests)
+
+some-from : (a : ℕ) → (a == 0) ≡ false → 1 ≤ a
+some-from a e = grind (arith, nat_tests)
+
+some-test : (a : ℕ) → 1 ≤ a → (a == 0) ≡ false
+some-test a h = grind (arith, nat_tests)
+
+-- 1. A number from 0 to 2 is a reward, and the other faults of a number are those of a reward.
+
+pub within-again : (f : Fraction) → f.den ≤ finest → f.num ≤ most_reward * f.den → amount_within f ≡ Ok f
+within-again f fine small = rw (ge-test finest f.den fine) (rw (ge-test (most_reward * f.den) f.num small) refl)
+
+range-amount : (g f : Fraction) → in_range g ≡ Ok f → amount_within g ≡ Ok f
+range-amount g f is =
+    elim (chosen (nat_lt finest g.den) (Err number.TooFine)
+    (cond (nat_lt (most_value * g.den) g.num) (Err number.TooLarge) (Ok g)) (Ok f) is) [
+      | inl t ↦ cc t.1
+      | inr t ↦ elim (chosen (nat_lt (most_value * g.den) g.num) (Err number.TooLarge) (Ok g) (Ok f) t.1) [
+        | inl u ↦ cc u.1
+        | inr u ↦ within-again g (ge-from finest g.den t.0) (omega (arith, ge-from (most_value * g.den) g.num u.0))
+            ∙ ap (λ h. Ok h) (same-number g f u.1)
+      ]
+    ]
+  where
+    same-number : (d e : Fraction) → ◌≡◌ {A = Result Fraction NumberFault} (Ok d) (Ok e) → d ≡ e
+    same-number d e same = cc
+
+fraction-amount : (v f : Fraction) → fraction_said v ≡ Ok f → amount_of v ≡ Ok f
+fraction-amount v f is =
+    elim (chosen (v.den == 0) (Err number.ZeroDenominator) (in_range (lowest v)) (Ok f) is) [
+      | inl t ↦ cc t.1
+      | inr t ↦ ap (λ b. cond b (Err (Number number.ZeroDenominator)) (amount_within (lowest v))) t.0
+          ∙ range-amount (lowest v) f t.1
+    ]
+
+spelled-amount : (o : Option Spelling) (f : Fraction) → spelling_said o ≡ Ok f → spelled_amount o ≡ Ok f
+spelled-amount None f is = cc
+spelled-amount (Some s) f is =
+    elim (chosen (is_long s) (Err number.TooManyDigits) (fraction_said (value_of s)) (Ok f) is) [
+      | inl t ↦ cc t.1
+      | inr t ↦ ap (λ b. cond b (Err (Number number.TooManyDigits)) (amount_of (value_of s))) t.0
+          ∙ fraction-amount (value_of s) f t.1
+    ]
+
+pub number-amount : (text : List ℕ) (f : Fraction) → number_said text ≡ Ok f → amount_said text ≡ Ok f
+number-amount text f is = spelled-amount (spelling_of text) f is
+
+same-fault : (d e : NumberFault) → ◌≡◌ {A = Result Fraction NumberFault} (Err d) (Err e) → d ≡ e
+same-fault d e is = cc
+
+range-fault : (g : Fraction) (e : NumberFault) → e ≢ number.TooLarge → in_range g ≡ Err e
+    → amount_within g ≡ Err (Number e)
+range-fault g e other is =
+    elim (chosen (nat_lt finest g.den) (Err number.TooFine)
+    (cond (nat_lt (most_value * g.den) g.num) (Err number.TooLarge) (Ok g)) (Err e) is) [
+      | inl t ↦ ap (λ b. cond b (Err (Number number.TooFine))
+          (cond (nat_lt (most_reward * g.den) g.num) (Err TooLarge) (Ok g))) t.0
+          ∙ ap (λ d. Err (Number d)) (same-fault _ _ t.1)
+      | inr t ↦ elim (chosen (nat_lt (most_value * g.den) g.num) (Err number.TooLarge) (Ok g) (Err e) t.1) [
+        | inl u ↦ absurd (other (sym (same-fault _ _ u.1)))
+        | inr u ↦ cc u.1
+      ]
+    ]
+
+fraction-fault : (v : Fraction) (e : NumberFault) → e ≢ number.TooLarge → fraction_said v ≡ Err e
+    → amount_of v ≡ Err (Number e)
+fraction-fault v e other is =
+    elim (chosen (v.den == 0) (Err number.ZeroDenominator) (in_range (lowest v)) (Err e) is) [
+      | inl t ↦ ap (λ b. cond b (Err (Number number.ZeroDenominator)) (amount_within (lowest v))) t.0
+          ∙ ap (λ d. Err (Number d)) (same-fault _ _ t.1)
+      | inr t ↦ ap (λ b. cond b (Err (Number number.ZeroDenominator)) (amount_within (lowest v))) t.0
+          ∙ range-fault (lowest v) e other t.1
+    ]
+
+spelled-fault : (o : Option Spelling) (e : NumberFault) → e ≢ number.TooLarge → spelling_said o ≡ Err e
+    → spelled_amount o ≡ Err (Number e)
+spelled-fault None e other is = ap (λ d. Err (Number d)) (same-fault _ _ is)
+spelled-fault (Some s) e other is =
+    elim (chosen (is_long s) (Err number.TooManyDigits) (fraction_said (value_of s)) (Err e) is) [
+      | inl t ↦ ap (λ b. cond b (Err (Number number.TooManyDigits)) (amount_of (value_of s))) t.0
+          ∙ ap (λ d. Err (Number d)) (same-fault _ _ t.1)
+      | inr t ↦ ap (λ b. cond b (Err (Number number.TooManyDigits)) (amount_of (value_of s))) t.0
+          ∙ fraction-fault (value_of s) e other t.1
+    ]
+
+pub number-fault : (text : List ℕ) (e : NumberFault) → e ≢ number.TooLarge → number_said text ≡ Err e
+    → amount_said text ≡ Err (Number e)
+number-fault text e other is = spelled-fault (spelling_of text) e other is
+
+-- 2. A number above 2.
+
+-- the fraction is above 2, and not too fine
+pub record IsLarge (v : Fraction) : Type 0 where
+  pub divided : 1 ≤ v.den
+  pub fine : (lowest v).den ≤ finest
+  pub above : most_value * (lowest v).den < (lowest v).num
+
+range-large : (v : Fraction) → 1 ≤ v.den → in_range (lowest v) ≡ Err number.TooLarge → IsLarge v
+range-large v some is =
+    elim (chosen (nat_lt finest (lowest v).den) (Err number.TooFine)
+    (cond (nat_lt (most_value * (lowest v).den) (lowest v).num) (Err number.TooLarge) (Ok (lowest v)))
+    (Err number.TooLarge) is) [
+      | inl t ↦ cc t.1
+      | inr t ↦ elim (chosen (nat_lt (most_value * (lowest v).den) (lowest v).num) (Err number.TooLarge)
+          (Ok (lowest v)) (Err number.TooLarge) t.1) [
+        | inl u ↦ record {
+          divided = some;
+          fine = ge-from finest (lowest v).den t.0;
+          above = lt-from (most_value * (lowest v).den) (lowest v).num u.0;
+        }
+        | inr u ↦ cc u.1
+      ]
+    ]
+
+pub large-found : (v : Fraction) → fraction_said v ≡ Err number.TooLarge → IsLarge v
+large-found v is =
+    elim (chosen (v.den == 0) (Err number.ZeroDenominator) (in_range (lowest v)) (Err number.TooLarge) is) [
+      | inl t ↦ cc t.1
+      | inr t ↦ range-large v (some-from v.den t.0) t.1
+    ]
+
+-- its numerator is more than twice its denominator
+pub large-above : (v : Fraction) → IsLarge v → 2 * v.den < v.num
+large-above v h = go (le_or_lt v.num (2 * v.den))
+  where
+    le_or_lt : (a b : ℕ) → (a ≤ b) ⊎ (b < a)
+    le_or_lt zero b = inl (omega arith)
+    le_or_lt (suc a) b = elim (le_or_lt a b) [
+      | inr l ↦ inr (omega arith)
+      | inl l ↦ elim (eq_or_lt a b l) [ inl e ↦ inr (omega (arith, e)) | inr l ↦ inl (omega arith) ]
+    ]
+      where
+        eq_or_lt : (a b : ℕ) → a ≤ b → (a ≡ b) ⊎ (a < b)
+        eq_or_lt zero zero l = inl refl
+        eq_or_lt zero (suc b) l = inr (omega arith)
+        eq_or_lt (suc a) zero l = absurd (omega arith)
+        eq_or_lt (suc a) (suc b) l =
+            elim (eq_or_lt a b (omega arith)) [ inl e ↦ inl (ap suc e) | inr l ↦ inr (omega arith) ]
+
+    go : (v.num ≤ 2 * v.den) ⊎ (2 * v.den < v.num) → 2 * v.den < v.num
+    go (inr l) = l
+    go (inl l) =
+        let first : (2 * (lowest v).den + 1) * v.den ≤ (lowest v).num * v.den =
+        mul-le-mul_right v.den (omega (arith, h.above)) in
+        let second : v.num * (lowest v).den ≤ (2 * v.den) * (lowest v).den = mul-le-mul_right (lowest v).den l in
+        absurd (omega (arith, first, second, lowest-value v h.divided, h.divided))
+
+-- a spelling above 2 has no more digits than may be read
+pub large-spelled : (s : Spelling) → spelling_said (Some s) ≡ Err number.TooLarge
+    → (is_long s ≡ false) × (fraction_said (value_of s) ≡ Err number.TooLarge)
+large-spelled s is =
+    elim (chosen (is_long s) (Err number.TooManyDigits) (fraction_said (value_of s)) (Err number.TooLarge) is) [
+      | inl t ↦ cc t.1
+      | inr t ↦ (t.0, t.1)
+    ]
+
+pub short-amount : (s : Spelling) → is_long s ≡ false → spelled_amount (Some s) ≡ amount_of (value_of s)
+short-amount s short = ap (λ b. cond b (Err (Number number.TooManyDigits)) (amount_of (value_of s))) short
+
+or-false : (a b : Bool) → (a || b) ≡ false → (a ≡ false) × (b ≡ false)
+or-false true b e = cc
+or-false false b e = (refl, e)
+
+-- a decimal has no more digits than may be read
+pub record IsShort (front back digits : List ℕ) : Type 0 where
+  pub few : length front + length back ≤ most_digits
+  pub short : length digits ≤ most_exponent_digits
+  pub small : value_onto 0 digits ≤ most_exponent
+
+pub short-decimal : (front back : List ℕ) (e : Exponent) → is_long (Decimal front back e) ≡ false
+    → IsShort front back e.digits
+short-decimal front back e is =
+    let parts = or-false (nat_lt most_digits (length front + length back)) (nat_lt most_exponent_digits (length e.digits)
+    || nat_lt most_exponent (value_onto 0 e.digits)) is in
+    let power = or-false (nat_lt most_exponent_digits (length e.digits)) (nat_lt most_exponent (value_onto 0 e.digits))
+    parts.1 in
+    record { few = ge-from _ _ parts.0; short = ge-from _ _ power.0; small = ge-from _ _ power.1 }
+
+pub short-quotient : (above below : List ℕ) → is_long (Quotient above below) ≡ false
+    → (length above ≤ most_digits) × (length below ≤ most_digits)
+short-quotient above below is =
+    let parts = or-false (nat_lt most_digits (length above)) (nat_lt most_digits (length below)) is in
+    (ge-from _ _ parts.0, ge-from _ _ parts.1)
+
+abbrev scaled : ℕ → ℕ → ℕ → Fraction
+scaled digits up down = record { num = digits * 10 ^ up; den = 10 ^ down }
+
+-- the value of a decimal, from its digits and its places
+pub decimal-value : (front back : List ℕ) (e : Exponent) (all up down : ℕ)
+    → all ≡ value_onto (value_onto 0 front) back → up ≡ cond e.below 0 (value_onto 0 e.digits)
+    → down ≡ length back + cond e.below (value_onto 0 e.digits) 0
+    → value_of (Decimal front back e) ≡ record { num = all * 10 ^ up; den = 10 ^ down }
+decimal-value front back e all up down is is-up is-down =
+    ap (λ n. scaled n (cond e.below 0 (value_onto 0 e.digits)) (length back + cond e.below (value_onto 0 e.digits) 0))
+    (value_append 0 front back ∙ sym is)
+    ∙ ap (λ n. scaled all n (length back + cond e.below (value_onto 0 e.digits) 0)) (sym is-up)
+    ∙ ap (λ n. scaled all up n) (sym is-down)
+
+-- 3. Powers of ten above and below the line.
+
+pub amount-above_zero : (f : Fraction) → 1 ≤ f.den → amount_of f ≡ amount_within (lowest f)
+amount-above_zero f h =
+    ap (λ b. cond b (Err (Number number.ZeroDenominator)) (amount_within (lowest f))) (some-test f.den h)
+
+ten-some : (n : ℕ) → 1 ≤ 10 ^ n
+ten-some n = pow-pos 10 n (omega arith)
+
+-- as many powers of ten less above the line as below it
+pub large-shifted : (digits up down : ℕ) → up ≤ down
+    → fraction_said (record { num = digits * 10 ^ up; den = 10 ^ down }) ≡ Err number.TooLarge
+    → fraction_said (record { num = digits; den = 10 ^ (down - up) }) ≡ Err number.TooLarge
+large-shifted digits up down h is =
+    said-above_zero (record { num = digits; den = 10 ^ (down - up) }) (ten-some (down - up))
+    ∙ ap in_range (sym (lowest-shifted digits up down h))
+    ∙ sym (said-above_zero (record { num = digits * 10 ^ up; den = 10 ^ down }) (ten-some down)) ∙ is
+
+pub amount-shifted : (digits up down : ℕ) → up ≤ down
+    → amount_of (record { num = digits * 10 ^ up; den = 10 ^ down })
+    ≡ amount_of (record { num = digits; den = 10 ^ (down - up) })
+amount-shifted digits up down h =
+    amount-above_zero (record { num = digits * 10 ^ up; den = 10 ^ down }) (ten-some down)
+    ∙ ap amount_within (lowest-shifted digits up down h)
+    ∙ sym (amount-above_zero (record { num = digits; den = 10 ^ (down - up) }) (ten-some (down - up)))
+
+pub amount-whole : (digits up down : ℕ) → down ≤ up
+    → amount_of (record { num = digits * 10 ^ up; den = 10 ^ down })
+    ≡ amount_within (record { num = digits * 10 ^ (up - down); den = 1 })
+amount-whole digits up down h =
+    amount-above_zero (record { num = digits * 10 ^ up; den = 10 ^ down }) (ten-some down)
+    ∙ ap amount_within (lowest-whole digits up down h)
+
+-- a number above 2 has more digits than places
+pub places-fit : (digits k : ℕ) → digits < 10 ^ most_digits
+    → fraction_said (record { num = digits; den = 10 ^ k }) ≡ Err number.TooLarge → 10 ^ k < 10 ^ most_digits
+places-fit digits k small is = let above = large-above (record { num = digits; den = 10 ^ k }) (large-found _ is) in
+    omega (arith, above)
+
+-- and some digit that is not 0
+pub digits-some : (digits up down : ℕ)
+    → fraction_said (record { num = digits * 10 ^ up; den = 10 ^ down }) ≡ Err number.TooLarge → 1 ≤ digits
+digits-some zero up down is =
+    let above = large-above (record { num = 0 * 10 ^ up; den = 10 ^ down }) (large-found _ is) in
+    absurd (omega (arith, above))
+digits-some (suc digits) up down is = omega arith
+
+whole-large : (n : ℕ) → most_reward < n → amount_within (record { num = n; den = 1 }) ≡ Err TooLarge
+whole-large n h = rw (lt-ltb (most_reward * 1) n (omega (arith, h))) refl
+
+-- many powers of ten are too large
+pub many-tens : (digits k : ℕ) → 1 ≤ digits → 15 < k
+    → amount_within (record { num = digits * 10 ^ k; den = 1 }) ≡ Err TooLarge
+many-tens digits k some h =
+    let ten : 10 ^ 16 ≤ 10 ^ k = pow-rises 10 16 k (omega arith) (omega arith) in
+    let more : 1 * 10 ^ k ≤ digits * 10 ^ k = mul-le-mul_right (10 ^ k) some in
+    whole-large (digits * 10 ^ k) (omega (arith, ten, more))
+
+-- and so are many digits
+pub many-digits : (digits k : ℕ) → most_reward < digits
+    → amount_within (record { num = digits * 10 ^ k; den = 1 }) ≡ Err TooLarge
+many-digits digits k h =
+    let more : digits * 1 ≤ digits * 10 ^ k = mul-le-mul_left digits (ten-some k) in
+    whole-large (digits * 10 ^ k) (omega (arith, h, more))
+
+-- few digits and few powers of ten fit
+pub few-tens : (digits k : ℕ) → digits ≤ most_reward → k ≤ 15 → digits * 10 ^ k ≤ 10 ^ 30
+few-tens digits k h few =
+    let ten : 10 ^ k ≤ 10 ^ 15 = pow-rises 10 k 15 (omega arith) few in
+    let first : digits * 10 ^ k ≤ most_reward * 10 ^ k = mul-le-mul_right (10 ^ k) h in
+    let second : most_reward * 10 ^ k ≤ most_reward * 10 ^ 15 = mul-le-mul_left most_reward ten in
+    omega (arith, first, second)
+
+pub ten-fits : (k : ℕ) → k ≤ 15 → 10 ^ k ≤ 10 ^ 15
+ten-fits k few = pow-rises 10 k 15 (omega arith) few

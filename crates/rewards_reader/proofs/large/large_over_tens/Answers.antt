@@ -1,0 +1,49 @@
+use Rattle.std.proofs.Common.{◌≡◌, ◌≤◌, ◌<◌, ◌*◌, ◌-◌, ◌^◌, ◌∙◌, ℕ, sym, ap, subst, arith, Err}
+use Rattle.fractions.specs.declared.number.NumberFault.TheVariants as number
+use Rattle.fractions.specs.Fraction.{Fraction}
+use Rattle.fractions.specs.Number.{fraction_said}
+use Rattle.fractions.proofs.Euclid.{coprime-one}
+use Rattle.rewards_reader.specs.Amounts.{amount_of, amount_within}
+use Rattle.rewards_reader.proofs.Amounts.{large-shifted, amount-shifted, amount-whole, places-fit, digits-some}
+use Rattle.rewards_reader.proofs.Amounts.{many-tens, many-digits, few-tens, ten-fits}
+use Rattle.rewards_reader.proofs.large.large_over_tens.Goals as goal
+use Rattle.rewards_reader.proofs.large.large_over_tens.Goals.{then-up-down-gt-MOST_REWARD_TENS-via-then-up-down-gt-MOST_REWARD_TENS, then-up-down-gt-MOST_REWARD_TENS-via-else-up-down-gt-MOST_REWARD_TENS+then-digits-gt-MOST_REWARD}
+
+pub pow-requires : goal.pow-requires
+pow-requires c =
+    let large = large-shifted c.args.digits c.args.up c.args.down c.if-up-down.true c.requires.large in
+    omega (arith, places-fit c.args.digits (c.args.down - c.args.up) c.requires.small large)
+
+pub reduced-requires : goal.reduced-requires
+reduced-requires c =
+    let fraction : ℕ → Fraction = λ n. record { num = c.args.digits; den = n } in
+    ap (λ n. fraction_said (fraction n)) c.pow.ensures
+    ∙ large-shifted c.args.digits c.args.up c.args.down c.if-up-down.true c.requires.large
+
+pub returns-then-up-down : goal.returns-then-up-down
+returns-then-up-down c =
+    let fraction : ℕ → Fraction = λ n. record { num = c.args.digits; den = n } in
+    c.reduced.ensures
+    ∙ ap (λ n. amount_of (fraction n)) c.pow.ensures
+    ∙ sym (amount-shifted c.args.digits c.args.up c.args.down c.if-up-down.true)
+
+pub returns-then-up-down-gt-MOST_REWARD_TENS : goal.returns-then-up-down-gt-MOST_REWARD_TENS
+returns-then-up-down-gt-MOST_REWARD_TENS c =
+    let some = digits-some c.args.digits c.args.up c.args.down c.requires.large in
+    let whole = amount-whole c.args.digits c.args.up c.args.down (omega (arith, c.if-up-down.false)) in
+    elim c.then-up-down-gt-MOST_REWARD_TENS.branch [
+      | then-up-down-gt-MOST_REWARD_TENS-via-then-up-down-gt-MOST_REWARD_TENS w ↦
+          sym (whole ∙ many-tens c.args.digits (c.args.up - c.args.down) some (omega arith))
+      | then-up-down-gt-MOST_REWARD_TENS-via-else-up-down-gt-MOST_REWARD_TENS+then-digits-gt-MOST_REWARD w ↦
+          sym (whole ∙ many-digits c.args.digits (c.args.up - c.args.down) (omega arith))
+    ]
+
+pub checked-requires-clause-lowest : goal.checked-requires-clause-lowest
+checked-requires-clause-lowest c = coprime-one (c.args.digits * c.pow-2.result)
+
+pub returns : goal.returns
+returns c =
+    let fraction : ℕ → Fraction = λ n. record { num = c.args.digits * n; den = 1 } in
+    c.checked.ensures
+    ∙ ap (λ n. amount_within (fraction n)) c.pow-2.ensures
+    ∙ sym (amount-whole c.args.digits c.args.up c.args.down (omega (arith, c.if-up-down.false)))

@@ -1,0 +1,17 @@
+use Rattle.std.proofs.Common.{◌∙◌, ℕ, sym, ap, arith}
+use Rattle.fractions.specs.Fraction.{Fraction}
+use Rattle.fractions.specs.Number.{Quotient, fraction_said}
+use Rattle.fractions.proofs.Spelled.{digits_room}
+use Rattle.rewards_reader.specs.Amounts.{amount_of}
+use Rattle.rewards_reader.proofs.Amounts.{large-spelled, short-quotient, short-amount}
+use Rattle.rewards_reader.proofs.large.large_quotient.Goals as goal
+
+pub digits_onto-requires-clause-small : goal.digits_onto-requires-clause-small
+digits_onto-requires-clause-small c =
+    let short = large-spelled (Quotient c.args.above.now c.args.below.now) c.requires.large in
+    digits_room _ (short-quotient c.args.above.now c.args.below.now short.0).0
+
+pub digits_onto-requires-2-clause-small : goal.digits_onto-requires-2-clause-small
+digits_onto-requires-2-clause-small c =
+    let short = large-spelled (Quotient c.args.above.now c.args.below.now) c.requires.large in
+    digits_room _ (short-quotient c.args.above.now c.args.below.now short.0).1
