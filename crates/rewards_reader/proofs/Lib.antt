@@ -1,1 +1,3 @@
 pub mod Amounts
+pub mod Places
+pub mod Spellings

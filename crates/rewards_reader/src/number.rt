@@ -1,6 +1,6 @@
 //! This module reads rewards as texts spell them.
 
-ghost use Rattle.std.specs.Prelude.{◌≡◌, Err, Some};
+ghost use Rattle.std.specs.Prelude.{◌≡◌, Err};
 ghost use Rattle.text_lines.specs.Text.{all_digits};
 ghost use Rattle.fractions.specs.Number.{number_said};
 ghost use Rattle.rewards_reader.specs.Amounts.{amount_said};
@@ -17,8 +17,10 @@ pub fn read_amount(text: &[u8]) -> Result<Amount, RewardsCause>
 {
     match read_number(text) {
         Ok(number) => Ok(Amount::of_number(&number)),
-        Err(NumberFault::TooLarge) => read_large(text),
-        Err(fault) => Err(RewardsCause::Number(fault)),
+        Err(fault) => match fault {
+            NumberFault::TooLarge => read_large(text),
+            _ => Err(RewardsCause::Number(fault)),
+        },
     }
 }
 
