@@ -1,3 +1,4 @@
 pub mod Amounts
 pub mod Places
+pub mod Right
 pub mod Spellings

@@ -62,7 +62,12 @@ impl<'g> LineReader for RewardLines<'g> {
     }
 
     fn finish(self) -> Result<Rewards, RewardsEnd> {
-        match self.table {
+        let RewardLines {
+            alloc: _,
+            game: _,
+            table,
+        } = self;
+        match table {
             Some(table) => table.finish(),
             None => Err(RewardsEnd::at(1, RewardsCause::NoHeader)),
         }

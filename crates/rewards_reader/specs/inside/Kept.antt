@@ -66,4 +66,4 @@ IsRightBehind table number lines answer = (before : List RewardLine) → IsKept 
 abbrev pub IsRight : List (List Distribution) → Option RewardTable → ℕ → List (List ℕ)
     → Result (List (Option Fraction)) RewardsEnd → Type 0
 IsRight game None number lines answer = number ≡ 1 → IsAnswer game (said_by_lines game lines) answer
-IsRight game (Some table) number lines answer = (table.game.now ≡ game) × IsRightBehind table number lines answer
+IsRight game (Some table) number lines answer = IsRightBehind table number lines answer
