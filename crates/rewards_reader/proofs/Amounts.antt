@@ -1,6 +1,6 @@
 -- What is said of a number and of a reward.
-use Rattle.std.proofs.Common.{◌≡◌, ◌≢◌, ◌∙◌, ◌≤◌, ◌<◌, ◌+◌, ◌-◌, ◌*◌, ◌^◌, ◌⊎◌, inl, inr, ℕ, suc, zero, List, ◌++◌, refl, ap}
-use Rattle.std.proofs.Common.{sym, subst, Bool, true, false, cond, Option, Some, None, Result, Ok, Err, length, arith}
+use Rattle.std.proofs.Common.{◌≡◌, ◌≢◌, ◌∙◌, ◌≤◌, ◌<◌, ◌+◌, ◌-◌, ◌*◌, ◌^◌, ◌⊎◌, inl, inr, ℕ, suc, zero, List, refl, ap}
+use Rattle.std.proofs.Common.{sym, Bool, true, false, cond, Option, Some, None, Result, Ok, Err, length, arith}
 use Rattle.std.specs.Prelude.{◌==◌, ◌||◌, nat_lt}
 use Rattle.std.proofs.lemmas.Bool.{lt-ltb}
 use Rattle.std.proofs.lemmas.Bool.Decides.{nat_tests}
@@ -12,12 +12,11 @@ use Rattle.fractions.specs.Limits.{finest, most_value, most_digits, most_exponen
 use Rattle.fractions.specs.Fraction.{Fraction, lowest}
 use Rattle.fractions.specs.Number.{Exponent, Spelling, Decimal, Quotient, value_of, is_long, in_range, fraction_said}
 use Rattle.fractions.specs.Number.{spelling_said, spelling_of, number_said}
-use Rattle.fractions.proofs.Euclid.{lowest-value, lowest-pos}
+use Rattle.fractions.proofs.Euclid.{lowest-value}
 use Rattle.fractions.proofs.Grammar.{chosen}
 use Rattle.fractions.proofs.Powers.{pow-pos, pow-rises}
 use Rattle.fractions.proofs.Spelled.{value_append}
 use Rattle.fractions.proofs.Terms.{lowest-shifted, lowest-whole, said-above_zero}
-use Rattle.rewards_reader.specs.declared.fault.RewardsCause.{RewardsCause}
 use Rattle.rewards_reader.specs.declared.fault.RewardsCause.TheVariants.{Number, TooLarge}
 use Rattle.rewards_reader.specs.Limits.{most_reward}
 use Rattle.rewards_reader.specs.Amounts.{amount_within, amount_of, spelled_amount, amount_said}
@@ -135,13 +134,13 @@ range-large v some is =
       | inl t ↦ cc t.1
       | inr t ↦ elim (chosen (nat_lt (most_value * (lowest v).den) (lowest v).num) (Err number.TooLarge)
           (Ok (lowest v)) (Err number.TooLarge) t.1) [
-        | inl u ↦ record {
-          divided = some;
-          fine = ge-from finest (lowest v).den t.0;
-          above = lt-from (most_value * (lowest v).den) (lowest v).num u.0;
-        }
-        | inr u ↦ cc u.1
-      ]
+            | inl u ↦ record {
+              divided = some;
+              fine = ge-from finest (lowest v).den t.0;
+              above = lt-from (most_value * (lowest v).den) (lowest v).num u.0;
+            }
+            | inr u ↦ cc u.1
+          ]
     ]
 
 pub large-found : (v : Fraction) → fraction_said v ≡ Err number.TooLarge → IsLarge v
@@ -217,16 +216,32 @@ short-quotient above below is =
 abbrev scaled : ℕ → ℕ → ℕ → Fraction
 scaled digits up down = record { num = digits * 10 ^ up; den = 10 ^ down }
 
--- the value of a decimal, from its digits and its places
-pub decimal-value : (front back : List ℕ) (e : Exponent) (all up down : ℕ)
-    → all ≡ value_onto (value_onto 0 front) back → up ≡ cond e.below 0 (value_onto 0 e.digits)
-    → down ≡ length back + cond e.below (value_onto 0 e.digits) 0
+decimal-value : (front back : List ℕ) (e : Exponent) (all up down : ℕ) → all ≡ value_onto (value_onto 0 front) back
+    → cond e.below 0 (value_onto 0 e.digits) ≡ up → length back + cond e.below (value_onto 0 e.digits) 0 ≡ down
     → value_of (Decimal front back e) ≡ record { num = all * 10 ^ up; den = 10 ^ down }
 decimal-value front back e all up down is is-up is-down =
     ap (λ n. scaled n (cond e.below 0 (value_onto 0 e.digits)) (length back + cond e.below (value_onto 0 e.digits) 0))
     (value_append 0 front back ∙ sym is)
-    ∙ ap (λ n. scaled all n (length back + cond e.below (value_onto 0 e.digits) 0)) (sym is-up)
-    ∙ ap (λ n. scaled all up n) (sym is-down)
+    ∙ ap (λ n. scaled all n (length back + cond e.below (value_onto 0 e.digits) 0)) is-up
+    ∙ ap (λ n. scaled all up n) is-down
+
+-- the value of a decimal whose exponent is below zero, from its digits and its places
+pub decimal-below : (front back : List ℕ) (e : Exponent) (first all size : ℕ) → e.below ≡ true
+    → first ≡ value_onto 0 front → all ≡ value_onto first back → size ≡ value_onto 0 e.digits
+    → value_of (Decimal front back e) ≡ record { num = all * 10 ^ 0; den = 10 ^ (length back + size) }
+decimal-below front back e first all size below is-first is-all is-size =
+    decimal-value front back e all 0 (length back + size) (is-all ∙ ap (λ n. value_onto n back) is-first)
+    (ap (λ b. cond b 0 (value_onto 0 e.digits)) below)
+    (ap (λ b. length back + cond b (value_onto 0 e.digits) 0) below ∙ ap (λ n. length back + n) (sym is-size))
+
+-- the value of a decimal whose exponent is not below zero
+pub decimal-above : (front back : List ℕ) (e : Exponent) (first all size : ℕ) → e.below ≡ false
+    → first ≡ value_onto 0 front → all ≡ value_onto first back → size ≡ value_onto 0 e.digits
+    → value_of (Decimal front back e) ≡ record { num = all * 10 ^ size; den = 10 ^ length back }
+decimal-above front back e first all size above is-first is-all is-size =
+    decimal-value front back e all size (length back) (is-all ∙ ap (λ n. value_onto n back) is-first)
+    (ap (λ b. cond b 0 (value_onto 0 e.digits)) above ∙ sym is-size)
+    (ap (λ b. length back + cond b (value_onto 0 e.digits) 0) above ∙ omega arith)
 
 -- 3. Powers of ten above and below the line.
 

@@ -1,6 +1,6 @@
 -- Entries in their places.
 use Rattle.std.proofs.Common.{◌≡◌, ◌≢◌, ◌∙◌, ◌≤◌, ◌<◌, ◌+◌, ◌-◌, ◌⊎◌, inl, inr, ℕ, suc, zero, List, [], ◌∷◌, ◌++◌, refl, ap}
-use Rattle.std.proofs.Common.{sym, subst, Bool, true, false, cond, Option, Some, None, Result, Ok, Err, length, arith}
+use Rattle.std.proofs.Common.{sym, subst, true, false, cond, Option, Some, None, Result, Ok, Err, length, arith}
 use Rattle.std.proofs.Common.{get_or, set, get_or-set_other, get_or-set_same, add-zero}
 use Rattle.std.specs.Prelude.{◌==◌, ◌&&◌, nat_lt, is_some}
 use Rattle.std.proofs.lemmas.Bool.{cases_Bool, eqb-true, and_parts}
@@ -15,7 +15,6 @@ use Rattle.rewards_reader.specs.declared.line.RewardLine.{RewardLine}
 use Rattle.rewards_reader.specs.Lines.{is_about, same_choice, reward_at, single_line, next_line, line_said}
 use Rattle.rewards_reader.specs.Rewards.{IsOfGame, place_of}
 use Rattle.rewards_reader.specs.inside.Kept.{AreEntries}
-
 
 -- 1. Places.
 
@@ -63,8 +62,12 @@ place-order : (game : List (List Distribution)) (s t : ℕ) (c d : Option ℕ) �
     → IsOfGame game t d → place_of game s c < place_of game t d
 place-order game s t c d h first second =
     let state = of-state game t d second in
-    omega (arith, place-high game s c first, base-rises game (s + 1) t (omega (arith, h)) (omega (arith, state)),
-    place-low game t d)
+    omega (
+      arith,
+      place-high game s c first,
+      base-rises game (s + 1) t (omega (arith, h)) (omega (arith, state)),
+      place-low game t d,
+    )
 
 same-choices : (game : List (List Distribution)) (s : ℕ) (c d : Option ℕ) → place_of game s c ≡ place_of game s d
     → same_choice d c ≡ true

@@ -1,5 +1,5 @@
 -- Answers that are right for the lines to come.
-use Rattle.std.proofs.Common.{◌≡◌, ◌+◌, ℕ, List, [], ◌∷◌, ◌++◌, Option, Some, None, Result, Ok, Err, sym, ap, subst}
+use Rattle.std.proofs.Common.{◌≡◌, ◌+◌, ℕ, List, [], ◌∷◌, ◌++◌, Option, Some, Result, Ok, Err, sym, ap, subst}
 use Rattle.std.specs.Prelude.{MatchResult, IfErr}
 use Rattle.text_lines.specs.Text.{fields_of}
 use Rattle.fractions.specs.Fraction.{Fraction}

@@ -9,8 +9,8 @@
 //! ```
 //!
 //! [`read_rewards`] gives the rewards, or the first fault of the text with its line. `specs/Lines.antt` says what a
-//! line says, `specs/Texts.antt` which fault a text has, and `specs/Rewards.antt` which rewards its lines give. A reward
-//! is exact: [`Amount`] is a fraction in lowest terms.
+//! line says, `specs/Texts.antt` which fault a text has, and `specs/Rewards.antt` which rewards its lines give. A
+//! reward is exact: [`Amount`] is a fraction in lowest terms.
 #![tactic(auto)]
 
 mod amount;

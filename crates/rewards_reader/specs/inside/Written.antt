@@ -1,5 +1,4 @@
 -- These definitions give the spelling of a number as it is written.
-use Rattle.std.specs.Prelude.{List, ℕ}
 use Rattle.fractions.specs.Number.{Exponent, Spelling, Decimal, Quotient}
 use Rattle.rewards_reader.specs.declared.spelling.Power.{Power}
 use Rattle.rewards_reader.specs.declared.spelling.Written.{Written}

@@ -1,11 +1,10 @@
-use Rattle.std.proofs.Common.{◌≡◌, ◌≤◌, ◌<◌, ◌*◌, ◌-◌, ◌^◌, ◌∙◌, ℕ, sym, ap, subst, arith, Err}
-use Rattle.fractions.specs.declared.number.NumberFault.TheVariants as number
+use Rattle.std.proofs.Common.{◌*◌, ◌-◌, ◌∙◌, ℕ, sym, ap, arith}
 use Rattle.fractions.specs.Fraction.{Fraction}
 use Rattle.fractions.specs.Number.{fraction_said}
 use Rattle.fractions.proofs.Euclid.{coprime-one}
 use Rattle.rewards_reader.specs.Amounts.{amount_of, amount_within}
 use Rattle.rewards_reader.proofs.Amounts.{large-shifted, amount-shifted, amount-whole, places-fit, digits-some}
-use Rattle.rewards_reader.proofs.Amounts.{many-tens, many-digits, few-tens, ten-fits}
+use Rattle.rewards_reader.proofs.Amounts.{many-tens, many-digits}
 use Rattle.rewards_reader.proofs.large.large_over_tens.Goals as goal
 use Rattle.rewards_reader.proofs.large.large_over_tens.Goals.{then-up-down-gt-MOST_REWARD_TENS-via-then-up-down-gt-MOST_REWARD_TENS, then-up-down-gt-MOST_REWARD_TENS-via-else-up-down-gt-MOST_REWARD_TENS+then-digits-gt-MOST_REWARD}
 

@@ -1,9 +1,6 @@
-use Rattle.std.proofs.Common.{◌∙◌, ℕ, sym, ap, arith}
-use Rattle.fractions.specs.Fraction.{Fraction}
-use Rattle.fractions.specs.Number.{Quotient, fraction_said}
+use Rattle.fractions.specs.Number.{Quotient}
 use Rattle.fractions.proofs.Spelled.{digits_room}
-use Rattle.rewards_reader.specs.Amounts.{amount_of}
-use Rattle.rewards_reader.proofs.Amounts.{large-spelled, short-quotient, short-amount}
+use Rattle.rewards_reader.proofs.Amounts.{large-spelled, short-quotient}
 use Rattle.rewards_reader.proofs.large.large_quotient.Goals as goal
 
 pub digits_onto-requires-clause-small : goal.digits_onto-requires-clause-small

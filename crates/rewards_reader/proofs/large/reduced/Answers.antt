@@ -4,7 +4,7 @@ use Rattle.fractions.specs.Fraction.{Fraction}
 use Rattle.fractions.specs.Limits.{finest}
 use Rattle.fractions.proofs.Euclid.{gcd-pos, coprime-div, lowest-pos}
 use Rattle.rewards_reader.specs.Amounts.{amount_within}
-use Rattle.rewards_reader.proofs.Amounts.{IsLarge, large-found, amount-above_zero}
+use Rattle.rewards_reader.proofs.Amounts.{large-found, amount-above_zero}
 use Rattle.rewards_reader.proofs.large.reduced.Goals as goal
 
 pub nonzero_div-above : goal.nonzero_div-above

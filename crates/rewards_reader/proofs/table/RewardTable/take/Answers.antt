@@ -1,7 +1,6 @@
-use Rattle.std.proofs.Common.{◌∙◌, [], ◌∷◌, ◌++◌, length, sym, subst, arith, ap}
+use Rattle.std.proofs.Common.{[], ◌∷◌, sym, arith}
 use Rattle.std.proofs.Common.{length-append}
 use Rattle.text_lines.specs.Text.{fields_of}
-use Rattle.rewards_reader.specs.inside.Kept.{IsKept, AreEntries}
 use Rattle.rewards_reader.proofs.Places.{AreEntries-more, next-free}
 use Rattle.rewards_reader.proofs.table.RewardTable.take.Goals as goal
 
