@@ -2,7 +2,7 @@
 use Rattle.std.proofs.Common.{◌≡◌, ◌≢◌, ◌∙◌, ◌≤◌, ◌<◌, ◌+◌, ◌-◌, ◌*◌, ◌^◌, ◌⊎◌, inl, inr, ℕ, suc, zero, List, refl, ap}
 use Rattle.std.proofs.Common.{sym, Bool, true, false, cond, Option, Some, None, Result, Ok, Err, length, arith}
 use Rattle.std.specs.Prelude.{◌==◌, ◌||◌, nat_lt}
-use Rattle.std.proofs.lemmas.Bool.{lt-ltb}
+use Rattle.std.proofs.lemmas.Bool.{cases_Bool, lt-ltb}
 use Rattle.std.proofs.lemmas.Bool.Decides.{nat_tests}
 use Rattle.std.proofs.Math.Nat.{mul-le-mul_left, mul-le-mul_right}
 use Rattle.text_lines.specs.Text.{value_onto}
@@ -152,29 +152,16 @@ large-found v is =
 
 -- its numerator is more than twice its denominator
 pub large-above : (v : Fraction) → IsLarge v → 2 * v.den < v.num
-large-above v h = go (le_or_lt v.num (2 * v.den))
-  where
-    le_or_lt : (a b : ℕ) → (a ≤ b) ⊎ (b < a)
-    le_or_lt zero b = inl (omega arith)
-    le_or_lt (suc a) b = elim (le_or_lt a b) [
-      | inr l ↦ inr (omega arith)
-      | inl l ↦ elim (eq_or_lt a b l) [ inl e ↦ inr (omega (arith, e)) | inr l ↦ inl (omega arith) ]
+large-above v h =
+    elim (cases_Bool (nat_lt (2 * v.den) v.num)) [
+      | inl t ↦ lt-from (2 * v.den) v.num t
+      | inr f ↦
+          let first : (2 * (lowest v).den + 1) * v.den ≤ (lowest v).num * v.den =
+          mul-le-mul_right v.den (omega (arith, h.above)) in
+          let second : v.num * (lowest v).den ≤ (2 * v.den) * (lowest v).den =
+          mul-le-mul_right (lowest v).den (ge-from (2 * v.den) v.num f) in
+          absurd (omega (arith, first, second, lowest-value v h.divided, h.divided))
     ]
-      where
-        eq_or_lt : (a b : ℕ) → a ≤ b → (a ≡ b) ⊎ (a < b)
-        eq_or_lt zero zero l = inl refl
-        eq_or_lt zero (suc b) l = inr (omega arith)
-        eq_or_lt (suc a) zero l = absurd (omega arith)
-        eq_or_lt (suc a) (suc b) l =
-            elim (eq_or_lt a b (omega arith)) [ inl e ↦ inl (ap suc e) | inr l ↦ inr (omega arith) ]
-
-    go : (v.num ≤ 2 * v.den) ⊎ (2 * v.den < v.num) → 2 * v.den < v.num
-    go (inr l) = l
-    go (inl l) =
-        let first : (2 * (lowest v).den + 1) * v.den ≤ (lowest v).num * v.den =
-        mul-le-mul_right v.den (omega (arith, h.above)) in
-        let second : v.num * (lowest v).den ≤ (2 * v.den) * (lowest v).den = mul-le-mul_right (lowest v).den l in
-        absurd (omega (arith, first, second, lowest-value v h.divided, h.divided))
 
 -- a spelling above 2 has no more digits than may be read
 pub large-spelled : (s : Spelling) → spelling_said (Some s) ≡ Err number.TooLarge

@@ -42,9 +42,15 @@ pub record GivesRewards (game : List (List Distribution)) (said : Result (List R
   pub is_said : said ≡ Ok lines
   pub rewards : HasRewards game lines table
 
--- The answer is the rewards of the lines if there is no fault, and the first fault otherwise, or memory ran out.
+-- The answer is the rewards of the lines if there is no fault, and the first fault otherwise.
+abbrev pub IsSaid : List (List Distribution) → Result (List RewardLine) RewardsFault
+    → Result (List (Option Fraction)) RewardsFault → Type 0
+IsSaid game said (Ok table) = GivesRewards game said table
+IsSaid game said (Err fault) = said ≡ Err fault
+
+-- The answer is the same, or memory ran out.
 abbrev pub IsAnswer : List (List Distribution) → Result (List RewardLine) RewardsFault
     → Result (List (Option Fraction)) RewardsEnd → Type 0
-IsAnswer game said (Ok table) = GivesRewards game said table
+IsAnswer game said (Ok table) = IsSaid game said (Ok table)
+IsAnswer game said (Err (Refused fault)) = IsSaid game said (Err fault)
 IsAnswer game said (Err OutOfMemory) = Unit {0}
-IsAnswer game said (Err (Refused fault)) = said ≡ Err fault

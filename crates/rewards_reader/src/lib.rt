@@ -8,7 +8,8 @@
 //! let toss = rewards.of_choice(&game, state, choice);
 //! ```
 //!
-//! [`read_rewards`] gives the rewards, or the first fault of the text with its line. `specs/Lines.antt` says what a
+//! [`read_rewards`] gives the rewards, or the first fault of the text with its line. [`read_rewards_from`] reads a file
+//! on a shelf, a piece at a time, and gives the same answer in whatever pieces it comes. `specs/Lines.antt` says what a
 //! line says, `specs/Texts.antt` which fault a text has, and `specs/Rewards.antt` which rewards its lines give. A
 //! reward is exact: [`Amount`] is a fraction in lowest terms.
 #![tactic(auto)]
@@ -16,6 +17,7 @@
 mod amount;
 mod divisor;
 mod fault;
+mod file;
 mod header;
 mod large;
 pub mod laws;
@@ -29,6 +31,7 @@ mod table;
 
 pub use amount::Amount;
 pub use fault::{RewardsCause, RewardsEnd, RewardsFault};
+pub use file::read_rewards_from;
 pub use limits::{MOST_LINES, MOST_REWARD};
 pub use reader::read_rewards;
 pub use rewards::Rewards;
