@@ -1,10 +1,10 @@
 -- These definitions give the rewards that texts spell. A reward is spelled as a probability is, but it may be greater.
-use Rattle.std.specs.Prelude.{ℕ, ◌*◌, ◌==◌, ◌≤◌, nat_lt, List, Option, Some, None, Result, Ok, Err, if◌then◌else◌}
+use Rattle.std.specs.Prelude.{◌≡◌, ℕ, false, ◌*◌, ◌==◌, ◌≤◌, nat_lt, List, Option, Some, None, Result, Ok, Err, if◌then◌else◌}
 use Rattle.std.specs.Int.{IsGcd}
 use Rattle.fractions.specs.declared.number.NumberFault.TheVariants.{NotANumber, TooManyDigits, ZeroDenominator, TooFine}
-use Rattle.fractions.specs.Fraction.{Fraction, lowest}
+use Rattle.fractions.specs.Fraction.{Fraction, SameValue, lowest}
 use Rattle.fractions.specs.Limits.{finest}
-use Rattle.fractions.specs.Number.{Spelling, spelling_of, is_long, value_of}
+use Rattle.fractions.specs.Number.{Spelling, Spells, spelling_of, is_long, value_of}
 use Rattle.rewards_reader.specs.declared.fault.RewardsCause.{RewardsCause}
 use Rattle.rewards_reader.specs.declared.fault.RewardsCause.TheVariants.{Number, TooLarge}
 use Rattle.rewards_reader.specs.Limits.{most_reward}
@@ -15,6 +15,15 @@ pub record IsAmount (f : Fraction) : Type 0 where
   pub positive : 1 ≤ f.den
   pub fine : f.den ≤ finest
   pub small : f.num ≤ most_reward * f.den
+
+-- The text spells this reward: it is of the value that the text spells, in lowest terms.
+pub record DenotesAmount (text : List ℕ) (f : Fraction) : Type 0 where
+  pub spelling : Spelling
+  pub spelled : Spells text spelling
+  pub short : is_long spelling ≡ false
+  pub divided : 1 ≤ (value_of spelling).den
+  pub value : SameValue f (value_of spelling)
+  pub amount : IsAmount f
 
 -- This is the reward 0.
 abbrev pub no_reward : Fraction

@@ -3,4 +3,5 @@ pub mod Amounts
 pub mod Lines
 pub mod Texts
 pub mod Rewards
+pub mod Denotes
 pub mod inside
