@@ -4,3 +4,4 @@ pub mod LineLaws
 pub mod Places
 pub mod Right
 pub mod Spellings
+pub mod TextLaws

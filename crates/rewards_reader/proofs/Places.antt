@@ -102,7 +102,7 @@ same-place game s c line first second same =
       ]
     ]
 
-same_choice-true : (c d : Option ℕ) → same_choice c d ≡ true → c ≡ d
+pub same_choice-true : (c d : Option ℕ) → same_choice c d ≡ true → c ≡ d
 same_choice-true None None is = refl
 same_choice-true None (Some j) is = cc
 same_choice-true (Some k) None is = cc
