@@ -131,10 +131,10 @@ choice-found game state choice reward (Some s) (Some k) line first second is =
       | inr t ↦ cc t.1
       | inl t ↦ elim (chosen (nat_lt k (length (choices_of game s))) (line_with s (Some k) (amount_said reward))
           (Err ChoiceOutOfRange) (Ok line) t.1) [
-        | inr u ↦ cc u.1
-        | inl u ↦ with-found game state (choice ∷ []) reward s (Some k) (amount_said reward) line first
-            (choice, (refl, second)) (lt-from s (length game) t.0, lt-from k (length (choices_of game s)) u.0) refl u.1
-      ]
+            | inr u ↦ cc u.1
+            | inl u ↦ with-found game state (choice ∷ []) reward s (Some k) (amount_said reward) line first
+                (choice, (refl, second)) (lt-from s (length game) t.0, lt-from k (length (choices_of game s)) u.0) refl u.1
+          ]
     ]
 
 pub line-found : (game : List (List Distribution)) (fields : List (List ℕ)) (line : RewardLine)

@@ -284,10 +284,9 @@ paid-from game table before (line ∷ lines) (bytes ∷ others) are single has =
     let P : List RewardLine → Type 0 = λ ls. AreSingle ls × HasRewards game ls table in
     let whole : (before ++ line ∷ []) ++ lines ≡ before ++ line ∷ lines = append_assoc before (line ∷ []) lines in
     let both : AreSingle ((before ++ line ∷ []) ++ lines) × HasRewards game ((before ++ line ∷ []) ++ lines) table =
-    subst P (sym whole) (single, has) in
-    (
+    subst P (sym whole) (single, has) in (
       has.each line.state line.choice are.0.of_game
-      ∙ at before (single-before before line lines single),
+          ∙ at before (single-before before line lines single),
       paid-from game table (before ++ line ∷ []) lines others are.1 both.0 both.1,
     )
   where

@@ -67,7 +67,10 @@ fn large_over_tens(digits: u128, up: u32, down: u32) -> Result<Amount, RewardsCa
     if up <= down {
         return reduced(digits, 10u128.pow(down - up));
     }
-    if up - down > MOST_REWARD_TENS || digits > MOST_REWARD {
+    if up - down > MOST_REWARD_TENS {
+        return Err(RewardsCause::TooLarge);
+    }
+    if digits > MOST_REWARD {
         return Err(RewardsCause::TooLarge);
     }
     checked(digits * 10u128.pow(up - down), 1)

@@ -6,7 +6,6 @@ use Rattle.rewards_reader.specs.Amounts.{amount_of, amount_within}
 use Rattle.rewards_reader.proofs.Amounts.{large-shifted, amount-shifted, amount-whole, places-fit, digits-some}
 use Rattle.rewards_reader.proofs.Amounts.{many-tens, many-digits}
 use Rattle.rewards_reader.proofs.large.large_over_tens.Goals as goal
-use Rattle.rewards_reader.proofs.large.large_over_tens.Goals.{then-up-down-gt-MOST_REWARD_TENS-via-then-up-down-gt-MOST_REWARD_TENS, then-up-down-gt-MOST_REWARD_TENS-via-else-up-down-gt-MOST_REWARD_TENS+then-digits-gt-MOST_REWARD}
 
 pub pow-requires : goal.pow-requires
 pow-requires c =
@@ -29,13 +28,13 @@ returns-then-up-down c =
 pub returns-then-up-down-gt-MOST_REWARD_TENS : goal.returns-then-up-down-gt-MOST_REWARD_TENS
 returns-then-up-down-gt-MOST_REWARD_TENS c =
     let some = digits-some c.args.digits c.args.up c.args.down c.requires.large in
-    let whole = amount-whole c.args.digits c.args.up c.args.down (omega (arith, c.if-up-down.false)) in
-    elim c.then-up-down-gt-MOST_REWARD_TENS.branch [
-      | then-up-down-gt-MOST_REWARD_TENS-via-then-up-down-gt-MOST_REWARD_TENS w ↦
-          sym (whole ∙ many-tens c.args.digits (c.args.up - c.args.down) some (omega arith))
-      | then-up-down-gt-MOST_REWARD_TENS-via-else-up-down-gt-MOST_REWARD_TENS+then-digits-gt-MOST_REWARD w ↦
-          sym (whole ∙ many-digits c.args.digits (c.args.up - c.args.down) (omega arith))
-    ]
+    sym (amount-whole c.args.digits c.args.up c.args.down (omega (arith, c.if-up-down.false))
+    ∙ many-tens c.args.digits (c.args.up - c.args.down) some (omega arith))
+
+pub returns-then-digits-gt-MOST_REWARD : goal.returns-then-digits-gt-MOST_REWARD
+returns-then-digits-gt-MOST_REWARD c =
+    sym (amount-whole c.args.digits c.args.up c.args.down (omega (arith, c.if-up-down.false))
+    ∙ many-digits c.args.digits (c.args.up - c.args.down) (omega arith))
 
 pub checked-requires-clause-lowest : goal.checked-requires-clause-lowest
 checked-requires-clause-lowest c = coprime-one (c.args.digits * c.pow-2.result)
