@@ -188,8 +188,8 @@ pub record IsShort (front back digits : List ℕ) : Type 0 where
 pub short-decimal : (front back : List ℕ) (e : Exponent) → is_long (Decimal front back e) ≡ false
     → IsShort front back e.digits
 short-decimal front back e is =
-    let parts = or-false (nat_lt most_digits (length front + length back)) (nat_lt most_exponent_digits (length e.digits)
-    || nat_lt most_exponent (value_onto 0 e.digits)) is in
+    let parts = or-false (nat_lt most_digits (length front + length back))
+    (nat_lt most_exponent_digits (length e.digits) || nat_lt most_exponent (value_onto 0 e.digits)) is in
     let power = or-false (nat_lt most_exponent_digits (length e.digits)) (nat_lt most_exponent (value_onto 0 e.digits))
     parts.1 in
     record { few = ge-from _ _ parts.0; short = ge-from _ _ power.0; small = ge-from _ _ power.1 }
@@ -294,14 +294,3 @@ pub many-digits : (digits k : ℕ) → most_reward < digits
 many-digits digits k h =
     let more : digits * 1 ≤ digits * 10 ^ k = mul-le-mul_left digits (ten-some k) in
     whole-large (digits * 10 ^ k) (omega (arith, h, more))
-
--- few digits and few powers of ten fit
-pub few-tens : (digits k : ℕ) → digits ≤ most_reward → k ≤ 15 → digits * 10 ^ k ≤ 10 ^ 30
-few-tens digits k h few =
-    let ten : 10 ^ k ≤ 10 ^ 15 = pow-rises 10 k 15 (omega arith) few in
-    let first : digits * 10 ^ k ≤ most_reward * 10 ^ k = mul-le-mul_right (10 ^ k) h in
-    let second : most_reward * 10 ^ k ≤ most_reward * 10 ^ 15 = mul-le-mul_left most_reward ten in
-    omega (arith, first, second)
-
-pub ten-fits : (k : ℕ) → k ≤ 15 → 10 ^ k ≤ 10 ^ 15
-ten-fits k few = pow-rises 10 k 15 (omega arith) few

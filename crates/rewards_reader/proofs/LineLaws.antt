@@ -1,5 +1,6 @@
 -- A header and a line that are said of fields are those that the fields spell.
-use Rattle.std.proofs.Common.{◌≡◌, ◌∙◌, ◌≤◌, ◌<◌, inl, inr, ℕ, List, [], ◌∷◌, ◌++◌, refl, ap, sym, subst, true, false, cond}
+use Rattle.std.proofs.Common.{◌≡◌, ◌∙◌, ◌≤◌, ◌<◌, inl, inr, ℕ, List, [], ◌∷◌, ◌++◌, refl, ap, sym, subst, true}
+use Rattle.std.proofs.Common.{false, cond}
 use Rattle.std.proofs.Common.{Option, Some, None, Result, Ok, Err, length, arith}
 use Rattle.std.specs.Prelude.{◌==◌, nat_lt, codes, bytes_eq}
 use Rattle.std.proofs.lemmas.Bool.{eqb-true, lt-ltb}
@@ -46,7 +47,8 @@ stated-found : (game : List (List Distribution)) (states lines : List ℕ) (n m 
 stated-found game states lines None m count first second is = cc
 stated-found game states lines (Some n) None count first second is = cc
 stated-found game states lines (Some n) (Some m) count first second is =
-    elim (chosen (n == length game) (cond (nat_lt most_lines m) (Err OverLimit) (Ok m)) (Err StateCount) (Ok count) is) [
+    elim (chosen (n == length game) (cond (nat_lt most_lines m) (Err OverLimit) (Ok m)) (Err StateCount)
+    (Ok count) is) [
       | inr t ↦ cc t.1
       | inl t ↦ elim (chosen (nat_lt most_lines m) (Err OverLimit) (Ok m) (Ok count) t.1) [
         | inl u ↦ cc u.1
@@ -133,7 +135,8 @@ choice-found game state choice reward (Some s) (Some k) line first second is =
           (Err ChoiceOutOfRange) (Ok line) t.1) [
             | inr u ↦ cc u.1
             | inl u ↦ with-found game state (choice ∷ []) reward s (Some k) (amount_said reward) line first
-                (choice, (refl, second)) (lt-from s (length game) t.0, lt-from k (length (choices_of game s)) u.0) refl u.1
+                (choice, (refl, second))
+                (lt-from s (length game) t.0, lt-from k (length (choices_of game s)) u.0) refl u.1
           ]
     ]
 

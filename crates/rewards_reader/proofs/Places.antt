@@ -1,5 +1,6 @@
 -- Entries in their places.
-use Rattle.std.proofs.Common.{◌≡◌, ◌≢◌, ◌∙◌, ◌≤◌, ◌<◌, ◌+◌, ◌-◌, ◌⊎◌, inl, inr, ℕ, suc, zero, List, [], ◌∷◌, ◌++◌, refl, ap}
+use Rattle.std.proofs.Common.{◌≡◌, ◌≢◌, ◌∙◌, ◌≤◌, ◌<◌, ◌+◌, ◌-◌, ◌⊎◌, inl, inr, ℕ, suc, zero, List, [], ◌∷◌, ◌++◌}
+use Rattle.std.proofs.Common.{refl, ap}
 use Rattle.std.proofs.Common.{sym, subst, true, false, cond, Option, Some, None, Result, Ok, Err, length, arith}
 use Rattle.std.proofs.Common.{get_or, set, get_or-set_other, get_or-set_same, add-zero}
 use Rattle.std.specs.Prelude.{◌==◌, ◌&&◌, nat_lt, is_some}
@@ -55,7 +56,8 @@ pub place-inside : (game : List (List Distribution)) (s : ℕ) (c : Option ℕ) 
     → place_of game s c < base game (length game)
 place-inside game s c inside =
     let state = of-state game s c inside in
-    omega (arith, place-high game s c inside, base-rises game (s + 1) (length game) (omega (arith, state)) (omega arith))
+    let rise = base-rises game (s + 1) (length game) (omega (arith, state)) (omega arith) in
+    omega (arith, place-high game s c inside, rise)
 
 -- the place of an earlier state is smaller
 place-order : (game : List (List Distribution)) (s t : ℕ) (c d : Option ℕ) → s < t → IsOfGame game s c

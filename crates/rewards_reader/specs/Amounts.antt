@@ -1,5 +1,6 @@
 -- These definitions give the rewards that texts spell. A reward is spelled as a probability is, but it may be greater.
-use Rattle.std.specs.Prelude.{◌≡◌, ℕ, false, ◌*◌, ◌==◌, ◌≤◌, nat_lt, List, Option, Some, None, Result, Ok, Err, if◌then◌else◌}
+use Rattle.std.specs.Prelude.{◌≡◌, ℕ, false, ◌*◌, ◌==◌, ◌≤◌, nat_lt, List, Option, Some, None, Result, Ok, Err}
+use Rattle.std.specs.Prelude.{if◌then◌else◌}
 use Rattle.std.specs.Int.{IsGcd}
 use Rattle.fractions.specs.declared.number.NumberFault.TheVariants.{NotANumber, TooManyDigits, ZeroDenominator, TooFine}
 use Rattle.fractions.specs.Fraction.{Fraction, SameValue, lowest}
