@@ -1,5 +1,5 @@
 -- The lines that are said of a text are those that it denotes, and so are the rewards.
-use Rattle.std.proofs.Common.{◌≡◌, ◌∙◌, ◌≤◌, ◌<◌, ◌+◌, ◌⊎◌, inl, inr, ℕ, List, [], ◌∷◌, ◌++◌, refl, ap, sym, subst}
+use Rattle.std.proofs.Common.{◌≡◌, ◌∙◌, ◌≤◌, ◌<◌, ◌+◌, inl, inr, ℕ, List, [], ◌∷◌, ◌++◌, refl, ap, sym, subst}
 use Rattle.std.proofs.Common.{true}
 use Rattle.std.proofs.Common.{false, cond, Option, Some, None, Result, Ok, Err, length, arith, append_assoc}
 use Rattle.std.proofs.Common.{length-append}
@@ -16,10 +16,10 @@ use Rattle.rewards_reader.specs.declared.fault.RewardsCause.TheVariants.{DoubleL
 use Rattle.rewards_reader.specs.declared.fault.RewardsFault.{RewardsFault}
 use Rattle.rewards_reader.specs.declared.line.RewardLine.{RewardLine}
 use Rattle.rewards_reader.specs.Amounts.{no_reward}
-use Rattle.rewards_reader.specs.Denotes.{IsHeader, IsLine, AreLines, AreNotAbout, AreSingle, DenotesLines, ArePaid}
+use Rattle.rewards_reader.specs.Denotes.{IsHeader, AreLines, AreNotAbout, AreSingle, DenotesLines, ArePaid}
 use Rattle.rewards_reader.specs.Denotes.{DenotesRewards}
 use Rattle.rewards_reader.specs.Lines.{is_about, same_choice, reward_at, single_line, next_line, line_said, header_said}
-use Rattle.rewards_reader.specs.Rewards.{IsOfGame, reward_of, reward_in, HasRewards, GivesRewards}
+use Rattle.rewards_reader.specs.Rewards.{reward_of, reward_in, HasRewards, GivesRewards}
 use Rattle.rewards_reader.specs.Texts.{fault_at, then_at, lines_from, said_by_lines, lines_said}
 use Rattle.rewards_reader.proofs.LineLaws.{header-found, header-again, line-found, line-again}
 use Rattle.rewards_reader.proofs.Places.{same_choice-true}
