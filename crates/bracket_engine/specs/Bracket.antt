@@ -88,8 +88,8 @@ pub record AreNear (q : Query) (zero : List Bool) (bound : Bound) (initial : Lis
   pub narrow_asked : AreSettledAt bound initial (slice_index base) (slice_index upper)
       ⊎ IsNarrow q zero asked (slice_index base) (slice_index upper)
 
--- The run ends early only if both tables are settled or each initial state is settled, and it ends in time. Settled
--- tables are the least settled ones.
+-- The run ends early only if the base and the swapped values are settled, or if each initial state is settled. It ends
+-- in time, as `EndsWhereSettled` says. Settled tables are the least settled ones.
 pub record HasEnded (q : Query) (zero : List Bool) (bound : Bound) (initial : List ℕ) (asked : ℕ)
     (base swapped_values upper : List ℕ) (rounds : ℕ) (stable : Bool) : Type 0 where
   pub early : rounds < asked → (stable ≡ true) ⊎ AreSettledAt bound initial (slice_index base) (slice_index upper)

@@ -1,4 +1,4 @@
--- A run has a limit. The constant of the code is equal to it: `laws::limits`.
+-- This module defines the limit of a run as a number. The constant of the code is equal to it: `laws::limits`.
 use Rattle.std.specs.Prelude.{ℕ}
 
 -- At most so many rounds may be asked for.

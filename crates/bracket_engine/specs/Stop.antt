@@ -1,4 +1,5 @@
--- A guess that settles the threshold at the initial states may end a run before the asked rounds.
+-- This module defines the guesses that may end a run before the asked rounds: they settle the threshold at the initial
+-- states.
 use Rattle.std.specs.Prelude.{◌≡◌, ℕ, ◌-◌, ◌<◌, ◌≤◌, Bool, true, false, List, length, All, Option, Some, None, min}
 use Rattle.std.specs.Prelude.{slice_index, IfSome}
 use Rattle.std.specs.Int.{is_power_of_two}

@@ -5,7 +5,7 @@ use Rattle.game_model.specs.Limits.{unit}
 use Rattle.game_model.specs.Query.{Query}
 use Rattle.game_model.specs.Values.{denominator, numerator}
 
--- This many units are at most 1 less every k-step value.
+-- For every k, this many units are at most 1 less the k-step value.
 abbrev pub IsBelowRest : Query → ℕ → ℕ → Type 0
 IsBelowRest q s units = (k : ℕ) → units * denominator q.game ^ k + unit * numerator q k s
     ≤ unit * denominator q.game ^ k

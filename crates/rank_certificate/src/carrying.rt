@@ -1,4 +1,4 @@
-//! Some choices carry a state into the states whose ranks were found.
+//! This module finds the choices that carry a state into the states whose ranks were found.
 
 ghost use Rattle.std.specs.Prelude.{◌<◌, ◌↔◌, length, IsTrue};
 ghost use Rattle.rank_certificate.specs.inside.Growth.{HasRankWithin};

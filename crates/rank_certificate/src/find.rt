@@ -1,4 +1,4 @@
-//! Values and choices have layered ranks.
+//! This module finds the layered ranks of values and choices.
 
 ghost use Rattle.std.specs.Prelude.{◌≡◌, length, IfOk};
 ghost use Rattle.game_model.specs.Query.{states};

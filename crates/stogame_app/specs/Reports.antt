@@ -48,7 +48,7 @@ Solves words holding taken solve problem f =
 -- The text and the status are the report of the command that the words denote.
 pub data IsReportOfWords (words : List (List ℕ)) (holding : Option Holding) (taken : ℕ) (text : List ℕ)
     (status : Status) : Type 0 where
-  -- `check` of `F`, `U` and, by its dual, `G` reports bounds of the k-step values of a question.
+  -- `check` of `F`, `U` and, by its dual, `G` reports bounds of the values of a question.
   of_reach : (check : Check) (p : Posing) (f : Tree) → Checks words holding taken check (OfReach p) f
       → IsBracketReport p.question p.initial f check text status → IsReportOfWords words holding taken text status
   -- `check` of `F<=k` and `U<=k` reports bounds of the values of exactly k steps.

@@ -80,7 +80,7 @@ pub record WritesFront (old new : Option (List ℕ)) (IsText : List ℕ → Type
 
 -- A run with these words ends with this status and turns the first output into the second. It has written a report, a
 -- refusal or the usage line; or it ended with a fault of reading or because memory ran out and wrote nothing; or it
--- ended with a fault of writing.
+-- ended with a fault of writing and wrote a front of such a text.
 abbrev pub IsEnding : List (List ℕ) → Option Holding → ℕ → Option (List ℕ) → Option (List ℕ) → Status → Type 0
 IsEnding words holding taken old new Fine = Writes old new (λ text. IsReportOfWords words holding taken text Fine)
 IsEnding words holding taken old new SomeFalse =
@@ -120,7 +120,7 @@ pub record AsksShelf {S : Type 0} (held : S → Option Holding) (steady : S → 
   -- The holding and the steadiness stay the same, and the count of faults does not fall.
   pub kept : KeepsShelf (held old) (held new) (steady old) (steady new) (faults old) (faults new)
   pub taken : (took new ≡ took old) ⊎ (took new ≤ most_bytes + piece_size)
-  -- A fault of reading is answered only if the count rose, and over a steady shelf only if a text is not held.
+  -- A run ends with a fault of reading only if the count rose, and over a steady shelf only if a text is not held.
   pub read_fault : status ≡ ReadFault → Rose (faults old) (faults new)
   pub steadily : status ≡ ReadFault → steady old ≡ true → IsMissingOfWords words (held old)
 

@@ -1,4 +1,4 @@
--- Bounds of a value may leave a threshold open.
+-- This module defines when bounds of a value leave a threshold open.
 use Rattle.std.specs.Prelude.{ℕ, ◌+◌, ◌-◌, ◌*◌, ◌^◌, ◌<◌, ◌≤◌, Bool, List}
 use Rattle.game_model.specs.Limits.{unit}
 use Rattle.game_model.specs.Query.{Query}

@@ -1,4 +1,4 @@
--- A report has lines.
+-- This module defines the text of a report, line by line.
 use Rattle.std.specs.Prelude.{ℕ, List, [], ◌∷◌, ◌++◌, ◌≤◌, ◌<◌, ◌^◌, codes, decimal}
 use Rattle.game_model.specs.Limits.{unit}
 use Rattle.plan_text.specs.Fixed.{fixed}

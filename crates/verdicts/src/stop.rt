@@ -1,4 +1,4 @@
-//! A run may stop when its bound is settled.
+//! This module has the rule by which a run may stop when its bound is settled.
 
 ghost use Rattle.std.specs.Prelude.{◌≡◌, ◌≤◌, not};
 ghost use Rattle.game_model.specs.Limits.{unit};
