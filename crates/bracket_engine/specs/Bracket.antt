@@ -100,7 +100,7 @@ pub record HasEnded (q : Query) (zero : List Bool) (bound : Bound) (initial : Li
   pub swapped_least : stable ≡ true → IsLeastSettled (swapped q zero) (slice_index swapped_values)
 
 -- A bracket of a question with this zero set has sound tables. It says what the upper table is made from, how near the
--- tables are after so many of the asked rounds, and how the run ended.
+-- tables are after this many of the asked rounds, and how the run ended.
 pub record IsBracket (q : Query) (zero : List Bool) (bound : Bound) (initial : List ℕ) (asked : ℕ) (base upper : List ℕ)
     (rounds : ℕ) (stable : Bool) : Type 0 where
   pub sound : AreSoundBounds q base upper

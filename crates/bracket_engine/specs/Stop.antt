@@ -15,7 +15,7 @@ use Rattle.bracket_engine.specs.declared.stopping.SettlingGuess.{SettlingGuess}
 abbrev pub AreSettledAt : Bound → List ℕ → (ℕ → ℕ) → (ℕ → ℕ) → Type 0
 AreSettledAt bound initial lower upper = All (λ s. is_settling (verdict_of bound (lower s) (upper s)) ≡ true) initial
 
--- A run of so many rounds goes on no longer than it has to. If the bound is a threshold, the run is over by the first
+-- A run of this many rounds goes on no longer than it has to. If the bound is a threshold, the run is over by the first
 -- of the rounds 1, 2, 4, 8 and so on after which as many down steps of its question and of the swapped question settle
 -- the threshold at each of these states.
 abbrev pub EndsWhereSettled : Query → Query → Bound → List ℕ → ℕ → Type 0

@@ -18,7 +18,7 @@ pub struct Bracket {
     pub ranks: Vec<u32>,
     /// The minimiser has a choice for each of its states that is neither goal nor dead.
     pub replies: Vec<Option<u32>>,
-    /// So many rounds were completed on both tables.
+    /// This many rounds were completed on both tables.
     pub rounds: u32,
     /// This says whether both tables are settled.
     pub stable: bool,

@@ -25,7 +25,7 @@ use std::marker::Brand;
 use std::thread::Threads;
 use verdicts::StopRule;
 
-/// At most so many rounds may be asked for.
+/// At most this many rounds may be asked for.
 pub const MOST_ROUNDS: u32 = 1_000_000;
 
 /// Gives the bracket after at most `rounds` rounds. Each round has at most `workers` workers, who pass the gate before

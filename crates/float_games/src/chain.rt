@@ -33,7 +33,7 @@ struct Row {
     end: u32,
 }
 
-/// No edge leads further: there are at most so many nodes.
+/// No edge leads further: there are at most this many nodes.
 const MOST: usize = 2_147_483_647;
 
 impl<'g> Chain<'g> {

@@ -23,8 +23,8 @@ pub struct Draft {
 impl Draft {
     ghost use Rattle.float_games.specs.Nodes.{nodes_of, choices_of, ended_nodes, ended_choices};
 
-    /// Makes an empty draft, with room for so many nodes, choices and edges. The only error of this and the other calls
-    /// is that memory ran out. More than 2^32 - 1 choices or edges are the same error.
+    /// Makes an empty draft, with room for this many nodes, choices and edges. The only error of this and the other
+    /// calls is that memory ran out. More than 2^32 - 1 choices or edges are the same error.
     pub fn new(
         alloc: Global,
         nodes: usize,

@@ -12,7 +12,7 @@ use crate::game::FloatGame;
 pub struct Swept {
     /// No value changed by more.
     pub change: f64,
-    /// So many nodes exchanged their choice.
+    /// This many nodes exchanged their choice.
     pub exchanged: u32,
 }
 

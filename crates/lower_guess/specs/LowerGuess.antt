@@ -18,7 +18,7 @@ excess (suc (suc place)) = 1
 abbrev pub last_place : ℕ
 last_place = 2
 
--- An excess has at most so many steps down.
+-- An excess has at most this many steps down.
 abbrev pub most_steps : ℕ
 most_steps = 4
 
@@ -31,7 +31,7 @@ first_raised q marks base e s = if is_goal q s then unit else
 abbrev pub lesser_step : Query → (ℕ → ℕ) → ℕ → ℕ
 lesser_step q table s = min (table s) (down_step q table s)
 
--- The table is the raised one after so many steps down.
+-- The table is the raised one after this many steps down.
 unfoldable pub raised_table : Query → List Bool → (ℕ → ℕ) → ℕ → ℕ → ℕ → ℕ
 raised_table q marks base e zero s = first_raised q marks base e s
 raised_table q marks base e (suc j) s = lesser_step q (raised_table q marks base e j) s

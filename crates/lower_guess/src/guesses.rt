@@ -13,7 +13,7 @@ use predecessors::Predecessors;
 use rank_certificate::rank_standing;
 use std::alloc::Global;
 
-/// An excess has at most so many steps down.
+/// An excess has at most this many steps down.
 pub const MOST_STEPS: u32 = 4;
 
 /// The tables of one excess are made from a question, its zero set, a lower table and the excess, and for each state
@@ -90,7 +90,7 @@ impl Guesses<'_> {
         Ok(None)
     }
 
-    /// Gives a table after so many steps down, in which no state falls, with its plan. It gives none if the table is
+    /// Gives a table after this many steps down, in which no state falls, with its plan. It gives none if the table is
     /// refused, since then each later one is refused.
     fn rank(
         &self,

@@ -11,10 +11,10 @@ use crate::guesses::{Guesses, MOST_STEPS};
 use fixed_bellman::Quotient;
 use game_model::{Side, UNIT};
 
-/// So many states, evenly spread, are checked for a fall of the last table.
+/// This many states, evenly spread, are checked for a fall of the last table.
 const MOST_TRIES: u32 = 256;
 
-/// All these checks together look into at most one state for so many states of the question, since a table would cost
+/// All these checks together look into at most one state for this many states of the question, since a table would cost
 /// more.
 const STATES_FOR_A_LOOK: u32 = 4;
 
@@ -52,7 +52,7 @@ impl Guesses<'_> {
         step < entry
     }
 
-    /// Gives the entry at a state after so many steps down, if the budget suffices.
+    /// Gives the entry at a state after this many steps down, if the budget suffices.
     #[cycle(local)]
     fn entry(&self, steps: u32, state: u32, budget: &mut u32) -> Option<u64>
         requires { state < states self.now.question.now }

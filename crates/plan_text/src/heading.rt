@@ -65,7 +65,7 @@ fn last_fields(line: &[u8]) -> Option<(&[u8], &[u8])>
     }
 }
 
-// Gives the version of a certificate of so many states, by its first line, or the fault of the line.
+// Gives the version of a certificate of this many states, by its first line, or the fault of the line.
 fn check_heading(states: u32, line: &[u8]) -> Result<Version, PlanCause>
     ensures { result ≡ header_said states (fields_of line.now) }
 {

@@ -44,7 +44,7 @@ pub fn certificates_have_one_reading()
         → certificate_text entries ≡ certificate_text others → entries ≡ others }
 {}
 
-/// The entries that are read for so many states are those of a certificate in the text, and those of each certificate
+/// The entries that are read for this many states are those of a certificate in the text, and those of each certificate
 /// in the text are read.
 pub fn certificates_are_what_is_read()
     ensures { (text : List ℕ) (states : ℕ) (entries : List Entry)

@@ -16,9 +16,9 @@ use crate::version::Version;
 use std::alloc::Global;
 use text_lines::{first_field, first_line, only_blank};
 
-/// Reads the certificate of so many states from a text. It passes over the lines before the first one whose first field
-/// is `certificate`. A value of the first version is as many units as its decimals say. It gives what the text says, or
-/// the first fault of the text, line by line, unless memory runs out.
+/// Reads the certificate of this many states from a text. It passes over the lines before the first one whose first
+/// field is `certificate`. A value of the first version is as many units as its decimals say. It gives what the text
+/// says, or the first fault of the text, line by line, unless memory runs out.
 pub fn read_plan(alloc: Global, bytes: &[u8], states: u32) -> Result<Plan, PlanFault>
     requires { length bytes.now ≤ most_bytes }
     ensures lists { IfOk result (λ plan. HasStates plan states) }

@@ -28,7 +28,7 @@ impl Version {
         }
     }
 
-    /// A value has so many digits after its point.
+    /// A value has this many digits after its point.
     pub fn decimals(self) -> usize
         ensures { result ≡ decimals_of self }
     {
@@ -38,7 +38,7 @@ impl Version {
         }
     }
 
-    /// The last of these digits counts so many units.
+    /// The last of these digits counts this many units.
     pub fn units_of_last_digit(self) -> u64
         ensures { result ≡ units_of_last_digit self }
     {

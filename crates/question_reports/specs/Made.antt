@@ -32,7 +32,7 @@ summary_text seed states zeros stable lower upper =
 abbrev pub status_made : Bool → Status
 status_made stable = if stable then Fine else SomeUndecided
 
--- This is the question about the game of so many states that a seed draws.
+-- This is the question about the game of this many states that a seed draws.
 abbrev pub drawn_question : ℕ → ℕ → Query
 drawn_question seed states = question_of (drawn_game seed states)
 

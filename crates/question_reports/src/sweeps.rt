@@ -1,4 +1,4 @@
-//! This module makes the answer to a problem with a bound on the steps: exactly so many are made.
+//! This module makes the answer to a problem with a bound on the steps: exactly that many are made.
 
 ghost use Rattle.std.specs.Prelude.{◌≡◌, ◌*◌, ◌<◌, ◌≤◌, ℕ, All, IfOk, false, length, slice_index};
 ghost use Rattle.game_model.specs.Limits.{unit};
@@ -80,7 +80,7 @@ pub fn next_report<R: Threads + Sync, G: Gate + Sync>(
     sweep_report(alloc, question, &sweep, 1, &posed.initial, formula)
 }
 
-// Reports on a sweep of so many steps, and bounds any numerators that give its exact values.
+// Reports on a sweep of this many steps, and bounds any numerators that give its exact values.
 fn sweep_report(
     alloc: Global,
     question: &Question,

@@ -32,7 +32,7 @@ pub struct Draft {
 }
 
 impl Draft {
-    /// Begins a game of so many states, of which none is made.
+    /// Begins a game of this many states, of which none is made.
     pub fn new(alloc: Global, states: u32) -> Draft {
         Draft {
             states,
@@ -97,7 +97,7 @@ impl Draft {
         Game::from_choices(alloc, all).ok()
     }
 
-    /// Returns the game if it has so many states.
+    /// Returns the game if it has this many states.
     pub(crate) fn game_with(self, alloc: Global, states: usize) -> Result<Game, Fail>
         ensures { IfOk result (λ game. length game ≡ states) }
     {

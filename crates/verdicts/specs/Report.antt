@@ -32,7 +32,7 @@ verdict_text No = codes "False"
 verdict_text Undecided = codes "Undecided"
 verdict_text Bracket = codes "Bracket"
 
--- The bounds of a line come from so many rounds or steps, a certificate, or the tables of a solver.
+-- The bounds of a line come from this many rounds or steps, a certificate, or the tables of a solver.
 abbrev pub how_text : How → List ℕ
 how_text (Rounds rounds) = codes " rounds " ++ decimal rounds
 how_text (Steps steps) = codes " steps " ++ decimal steps

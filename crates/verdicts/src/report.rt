@@ -12,9 +12,9 @@ use std::alloc::Global;
 /// The bounds of a line come from one of these.
 #[derive(Clone, Copy, Debug, PartialEq, Eq)]
 pub enum How {
-    /// So many rounds of value iteration were completed.
+    /// This many rounds of value iteration were completed.
     Rounds(u32),
-    /// The bounds are those of so many steps: as many as the formula names, and one for `X`.
+    /// The bounds are those of this many steps: as many as the formula names, and one for `X`.
     Steps(u32),
     /// A certificate was checked.
     Audited,

@@ -91,7 +91,7 @@ fn verdict_by(holds: bool, fails: bool) -> Verdict
     }
 }
 
-// Says whether so many units are at least the threshold.
+// Says whether this many units are at least the threshold.
 fn reaches(threshold: &Frac, units: u64) -> bool
     requires { units ≤ unit }
     ensures { result ≡ reaches threshold.now units }
@@ -99,7 +99,7 @@ fn reaches(threshold: &Frac, units: u64) -> bool
     threshold.num() * u128::from(UNIT) <= u128::from(units) * threshold.den()
 }
 
-// Says whether so many units are above the threshold.
+// Says whether this many units are above the threshold.
 fn exceeds(threshold: &Frac, units: u64) -> bool
     requires { units ≤ unit }
     ensures { result ≡ exceeds threshold.now units }
