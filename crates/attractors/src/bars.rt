@@ -7,7 +7,7 @@ ghost use Rattle.attractors.specs.Attractor.{Barred, dead_barred};
 
 use game_model::Question;
 
-/// This bars states and choices of a question.
+/// A type with this trait bars states and choices of a question.
 pub trait Bars {
     /// It can be used for this question.
     ghost fits: { Self → Query → Type 0 };

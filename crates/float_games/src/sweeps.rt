@@ -1,4 +1,4 @@
-//! Sweeps update the values of a game.
+//! This module has the sweeps that update the values of a game.
 
 ghost use Rattle.std.specs.Float.{◌<ᶠ◌, ◌≤ᶠ◌, float_zero};
 ghost use Rattle.std.specs.Prelude.{◌≡◌, ◌<◌, ◌≤◌, length, vec_len};

@@ -1,4 +1,4 @@
-//! Two kinds of files have one format.
+//! This module has the two kinds of files that have one format.
 
 ghost use Rattle.std.specs.Prelude.{◌≡◌, ◌<◌};
 

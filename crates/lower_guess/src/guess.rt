@@ -1,4 +1,4 @@
-//! A table has a lower guess.
+//! This module makes the lower guess of a table.
 
 ghost use Rattle.std.specs.Prelude.{◌≡◌, length, slice_index, IfOk};
 ghost use Rattle.game_model.specs.Query.{states};

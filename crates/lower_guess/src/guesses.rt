@@ -1,4 +1,4 @@
-//! Each excess has raised tables.
+//! This module makes the raised tables of one excess.
 
 ghost use Rattle.std.specs.Prelude.{◌≡◌, ℕ, ◌<◌, ◌≤◌, length, slice_index, All, IfOk};
 ghost use Rattle.game_model.specs.Query.{IsQuery, states};

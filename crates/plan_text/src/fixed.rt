@@ -1,4 +1,4 @@
-//! A value is written as text.
+//! This module writes a value as text.
 
 ghost use Rattle.std.specs.Prelude.{◌≡◌, ◌≤◌, ◌∷◌, ◌++◌, IfOk, OnOk};
 ghost use Rattle.game_model.specs.Limits.{unit};

@@ -1,4 +1,4 @@
-//! A certificate is read from text.
+//! This module reads a certificate from text.
 
 ghost use Rattle.std.specs.Prelude.{◌≡◌, ◌≤◌, ◌<◌, ◌+◌, ◌&&◌, [], Ok, Err, All, IfOk, MatchResult, length, if◌then◌else◌};
 ghost use Rattle.text_lines.specs.Limits.{most_bytes};

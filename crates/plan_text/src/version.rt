@@ -1,4 +1,4 @@
-//! There are two versions of certificates.
+//! This module has the two versions of certificates.
 
 ghost use Rattle.std.specs.Prelude.{◌≡◌};
 ghost use Rattle.plan_text.specs.Versions.{decimals_of, units_of_last_digit, version_in};

@@ -1,4 +1,4 @@
-//! A certificate is written as text.
+//! This module writes a certificate as text.
 
 ghost use Rattle.std.specs.Prelude.{◌≡◌, ◌≤◌, ◌<◌, ◌++◌, All, IfOk, OnOk, codes, decimal, length};
 ghost use Rattle.game_model.specs.Limits.{unit};

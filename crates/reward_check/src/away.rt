@@ -1,4 +1,4 @@
-//! A choice may keep away from the goals.
+//! This module says when a choice keeps away from the goals.
 
 ghost use Rattle.std.specs.Prelude.{◌≡◌, ◌<◌, ◌↔◌, length, slice_index, IsTrue};
 ghost use Rattle.game_model.specs.Game.{choices_of, choice_of};

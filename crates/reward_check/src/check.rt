@@ -1,4 +1,4 @@
-//! A certificate of rewards is checked here.
+//! This module checks a certificate of rewards.
 
 ghost use Rattle.std.specs.Prelude.{◌≡◌, ◌<◌, ◌↔◌, ◌⊎◌, ℕ, true, IsTrue, IsOk, IfErr};
 ghost use Rattle.game_model.specs.Query.{states, is_goal};

@@ -1,4 +1,4 @@
-//! A choice leads to its successors.
+//! This module tests the successors of a choice.
 
 ghost use Rattle.std.specs.Prelude.{◌≡◌, ◌<◌, ◌↔◌, false, length, slice_index, IsTrue};
 ghost use Rattle.game_model.specs.Game.{choices_of, choice_of};
