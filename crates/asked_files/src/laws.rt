@@ -1,4 +1,5 @@
-//! This module has laws of the problems that texts and words ask. Each function does nothing: its contract is the law.
+//! This module has the laws of the problems that texts and words ask. Each function does nothing: its contract is the
+//! law.
 
 ghost use Rattle.std.specs.Prelude.{◌≡◌, ◌↔◌};
 ghost use Rattle.command_words.specs.Words.{Asked};

@@ -1,5 +1,5 @@
--- This file says what bounds of `G` say of a state, in the values of its dual. A value of `G` is 1 less the probability
--- of reaching a state where the right side fails.
+-- This module says what bounds of `G` say of a state, in the values of its dual. A value of `G` is 1 less the
+-- probability of reaching a state where the right side fails.
 use Rattle.std.specs.Prelude.{ℕ, ◌+◌, ◌*◌, ◌^◌, ◌≤◌}
 use Rattle.game_model.specs.Limits.{unit}
 use Rattle.game_model.specs.Query.{Query}

@@ -1,5 +1,5 @@
--- This file defines the bounds that are found for a formula whose sides are known in part: lower ones for the question
--- of the sure states, and upper ones for that of the possible states.
+-- This module defines the bounds that are found for a formula whose sides are known in part: lower ones for the
+-- question of the sure states, and upper ones for that of the possible states.
 use Rattle.std.specs.Prelude.{◌≡◌, ℕ, Bool, List, if◌then◌else◌}
 use Rattle.std.specs.List.{range_with_len}
 use Rattle.game_model.specs.Limits.{unit}

@@ -1,4 +1,4 @@
--- This file defines the answer to a formula with formulas inside.
+-- This module defines the answer to a formula with formulas inside.
 use Rattle.std.specs.Prelude.{◌≡◌, ◌<◌, ◌+◌, ℕ, List, All}
 use Rattle.game_model.specs.Game.{IsGame}
 use Rattle.formula_reader.specs.Formula.{Tree, formulas_inside}

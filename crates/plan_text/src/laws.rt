@@ -1,4 +1,4 @@
-//! These are laws of certificates. Each function does nothing; its contract is the law.
+//! This module has the laws of certificates. Each function does nothing: its contract is the law.
 
 ghost use Rattle.std.specs.Prelude.{◌≡◌, ◌≤◌, ◌^◌, ◌++◌, ◌↔◌, List, ℕ, All, Ok, Some, codes, length};
 ghost use Rattle.game_model.specs.Limits.{unit, most_states};

@@ -1,4 +1,4 @@
--- This file defines the bounds that candidates give when the almost-sure states and the states of value 0 are known.
+-- This module defines the bounds that candidates give when the almost-sure states and the states of value 0 are known.
 use Rattle.std.specs.Prelude.{ℕ, ◌-◌, ◌⊎◌, ◌==◌, Bool, false, List, [], length, slice_index, slice_index_or, min, max}
 use Rattle.std.specs.Prelude.{if◌then◌else◌}
 use Rattle.game_model.specs.Query.{Query, states}

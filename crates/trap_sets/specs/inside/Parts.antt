@@ -1,4 +1,4 @@
--- This file defines parts of the states, and the choices that stay in them.
+-- This module defines parts of the states, and the choices that stay in them.
 use Rattle.std.specs.Prelude.{◌≡◌, ◌≢◌, ℕ, ◌+◌, ◌-◌, ◌<◌, ◌≤◌, List, slice_index, Option}
 use Rattle.game_model.specs.Query.{Query, states}
 use Rattle.trap_sets.specs.Moves.{IsCut, Leads, Reach}
