@@ -1,4 +1,4 @@
-//! The rounds of a question are run here.
+//! This module runs the rounds of a question.
 
 ghost use Rattle.std.specs.Prelude.{◌≡◌, ◌≤◌, ◌<◌, All, IfOk};
 ghost use Rattle.game_model.specs.Query.{states};

@@ -1,4 +1,4 @@
-//! The upper side of a bracket is made here: the upper table, and the minimiser's replies to it.
+//! This module makes the upper side of a bracket: the upper table, and the minimiser's replies to it.
 
 ghost use Rattle.std.specs.Prelude.{slice_index, IfOk};
 ghost use Rattle.game_model.specs.Dual.{IsZeroSet};

@@ -1,8 +1,8 @@
 //! This module makes what `make` says of a game that a seed draws.
 //!
 //! [`drawn_report`] writes one line on the bracket of its question: the number of states of value 0, and the sums of
-//! the lower and the upper table if the run is settled. A law in `laws.rt` says that the line of a settled run is the
-//! same on every run.
+//! the lower and the upper table if the run is settled. A law in `laws.rt` says that two settled runs of the same game
+//! have the same line.
 
 ghost use Rattle.std.specs.Prelude.{◌≡◌, ◌<◌, ◌^◌, IfOk, count_by};
 ghost use Rattle.std.specs.String.{string_bytes};

@@ -72,7 +72,7 @@ pub record Writes (old new : Option (List ℕ)) (IsText : List ℕ → Type 0) :
   pub is : IsText text
   pub grows : GrowsBy old new text
 
--- There is such a text, and the output grew by a front of it if the bytes of the output are told.
+-- There is such a text, and the output grew by a prefix of it if the bytes of the output are told.
 pub record WritesFront (old new : Option (List ℕ)) (IsText : List ℕ → Type 0) : Type 0 where
   pub text : List ℕ
   pub is : IsText text
@@ -80,7 +80,7 @@ pub record WritesFront (old new : Option (List ℕ)) (IsText : List ℕ → Type
 
 -- A run with these words ends with this status and turns the first output into the second. It has written a report, a
 -- refusal or the usage line; or it ended with a fault of reading or because memory ran out and wrote nothing; or it
--- ended with a fault of writing and wrote a front of such a text.
+-- ended with a fault of writing and wrote a prefix of such a text.
 abbrev pub IsEnding : List (List ℕ) → Option Holding → ℕ → Option (List ℕ) → Option (List ℕ) → Status → Type 0
 IsEnding words holding taken old new Fine = Writes old new (λ text. IsReportOfWords words holding taken text Fine)
 IsEnding words holding taken old new SomeFalse =
