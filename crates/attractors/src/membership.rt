@@ -10,8 +10,8 @@ use crate::bars::Bars;
 use game_model::Question;
 use std::alloc::{AllocError, Global};
 
-/// Gives the first choice of a state, from this one on, that is barred or has no successor in the set. If there is
-/// none, it gives the number of choices.
+/// Returns the first choice of a state, from this one on, that is barred or has no successor in the set. If there is
+/// none, it returns the number of choices.
 pub fn first_unserved<S: Bars>(
     question: &Question,
     bars: &S,

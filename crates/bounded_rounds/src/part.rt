@@ -95,7 +95,7 @@ fn step_stretch<G: Gate>(
     changed
 }
 
-/// Gives the step of both bounds of a state, and whether one of them is not the entry there.
+/// Returns the step of both bounds of a state, and whether one of them is not the entry there.
 fn step_state(tables: Tables<'_>, state: u32) -> (Bounds, bool)
     requires { state < states tables.question.now }
     ensures down { result.0.lower ≡ down_step tables.entry.question.now

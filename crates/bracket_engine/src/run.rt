@@ -28,8 +28,8 @@ use verdicts::StopRule;
 /// At most this many rounds may be asked for.
 pub const MOST_ROUNDS: u32 = 1_000_000;
 
-/// Gives the bracket after at most `rounds` rounds. Each round has at most `workers` workers, who pass the gate before
-/// each state. The marks are the question's zero set. The only error is that memory ran out.
+/// Returns the bracket after at most `rounds` rounds. Each round has at most `workers` workers, who pass the gate
+/// before each state. The marks are the question's zero set. The only error is that memory ran out.
 ///
 /// A round updates the lower table and then the swapped values, which are lower bounds of the swapped question. The run
 /// ends early if both are settled. After 1, 2, 4, 8 and so on rounds a guess is made over the lower bounds, and the run
@@ -73,7 +73,7 @@ pub fn bracket<R: Threads + Sync, F: Fn(u64, u64) -> bool, G: Gate + Sync>(
     )
 }
 
-/// Gives the bracket of [`bracket`] for a caller that has the lists of predecessors of the question's game. The only
+/// Returns the bracket of [`bracket`] for a caller that has the lists of predecessors of the question's game. The only
 /// error is that memory ran out.
 pub fn bracket_over<R: Threads + Sync, F: Fn(u64, u64) -> bool, G: Gate + Sync>(
     rt: &R,

@@ -124,14 +124,14 @@ fn estimate(above: u128, total: u128) -> u64 {
     saturating_f64_to_u64(float_of(above) / float_of(total))
 }
 
-/// Gives a number in floating point.
+/// Returns a number in floating point.
 fn float_of(number: u128) -> f64 {
     let high = nearest_u64_to_f64((number / WORD) as u64);
     let low = nearest_u64_to_f64((number % WORD) as u64);
     high * FLOAT_WORD + low
 }
 
-/// Gives the first number from a guess downward whose product with the total is not above a number.
+/// Returns the first number from a guess downward whose product with the total is not above a number.
 fn lowered(above: u128, total: u128, mut guess: u64) -> u64
     requires small { total < total_bound }
     requires units { guess ≤ unit }

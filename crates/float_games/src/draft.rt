@@ -146,7 +146,7 @@ fn divide_from(shares: &mut [f64], begin: usize, total: f64) {
     }
 }
 
-/// Gives a number that fits 32 bits, or an error.
+/// Returns a number that fits 32 bits, or an error.
 fn number_of(count: usize) -> Result<u32, OutOfMemory>
     ensures { IfOk result (λ n. n ≡ count) }
 {

@@ -122,7 +122,7 @@ impl FloatGame {
         self.to.len()
     }
 
-    /// Gives the mark of a choice, or [`NO_MARK`] if it is no choice of the game, or was added for a node that had
+    /// Returns the mark of a choice, or [`NO_MARK`] if it is no choice of the game, or was added for a node that had
     /// none.
     pub fn mark(&self, choice: u32) -> u32
         ensures { result ≡ mark_of self.now choice }
@@ -145,7 +145,7 @@ impl FloatGame {
         self.maximises[node]
     }
 
-    /// Gives the policy of the first choices.
+    /// Returns the policy of the first choices.
     pub fn first_policy(&self, alloc: Global) -> Result<Vec<u32>, OutOfMemory>
         ensures { IfOk result (λ p. vec_len p ≡ nodes_of self.now) }
     {

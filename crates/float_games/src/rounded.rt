@@ -45,13 +45,13 @@ pub fn whole_units(bound: Bound, value: f64) -> f64
     })
 }
 
-/// Gives the greatest whole number that is not above a float below 2^51 in size.
+/// Returns the greatest whole number that is not above a float below 2^51 in size.
 fn floor_of(x: f64) -> f64 {
     let whole = (x + SHIFT) - SHIFT;
     if whole > x { whole - 1.0 } else { whole }
 }
 
-/// Gives the least whole number that is not below a float below 2^51 in size.
+/// Returns the least whole number that is not below a float below 2^51 in size.
 fn ceil_of(x: f64) -> f64 {
     let whole = (x + SHIFT) - SHIFT;
     if whole < x { whole + 1.0 } else { whole }

@@ -77,7 +77,7 @@ fn needs_reply(question: &Question, state: u32) -> bool
     }
 }
 
-/// Gives the first replies to a table that [`crate::check_upper`] passes: for each state of the minimiser that is
+/// Returns the first replies to a table that [`crate::check_upper`] passes: for each state of the minimiser that is
 /// neither a goal nor dead the first choice that is held to its entry, and none for each other state. The minimiser who
 /// plays them holds every opponent to the table at every horizon. The only error is that memory ran out.
 pub fn replies(
@@ -100,7 +100,7 @@ pub fn replies(
     Ok(replies)
 }
 
-/// Gives the first choice of a state that is held to its entry, if the state needs a reply.
+/// Returns the first choice of a state that is held to its entry, if the state needs a reply.
 fn reply_of(question: &Question, upper: &[u64], state: u32) -> Option<u32>
     requires length { length upper.now ≡ states question.now }
     requires units { All (λ v. v ≤ unit) upper.now }

@@ -65,7 +65,7 @@ impl Owners {
         self.names.contains_key(name)
     }
 
-    /// Gives the name of the player who owns a state.
+    /// Returns the name of the player who owns a state.
     pub fn owner(&self, state: u32) -> &[u8]
         requires { state < length self.now.owners }
         ensures { result.now ≡ owner_of self.now state }

@@ -14,7 +14,7 @@ use game_outside::OutOfMemory;
 use predecessors::{Predecessors, mark_predecessors};
 use std::alloc::Global;
 
-/// Gives the lesser of a table and of its down step, at each state.
+/// Returns the lesser of a table and of its down step, at each state.
 pub fn lesser_table(
     alloc: Global,
     question: &Question,
@@ -35,7 +35,7 @@ pub fn lesser_table(
     Ok(next)
 }
 
-/// Gives the lesser of the two at a state.
+/// Returns the lesser of the two at a state.
 fn lesser_entry(question: &Question, table: &[u64], marks: &[bool], state: u32) -> u64
     requires state { state < states question.now }
     requires length { length table.now ≡ states question.now }

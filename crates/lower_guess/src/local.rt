@@ -52,7 +52,7 @@ impl Guesses<'_> {
         step < entry
     }
 
-    /// Gives the entry at a state after this many steps down, if the budget suffices.
+    /// Returns the entry at a state after this many steps down, if the budget suffices.
     #[cycle(local)]
     fn entry(&self, steps: u32, state: u32, budget: &mut u32) -> Option<u64>
         requires { state < states self.now.question.now }
@@ -69,7 +69,7 @@ impl Guesses<'_> {
         Some(entry.min(step))
     }
 
-    /// Gives the down step of that table at the state.
+    /// Returns the down step of that table at the state.
     #[cycle(local)]
     fn step(&self, steps: u32, state: u32, budget: &mut u32) -> Option<u64>
         requires { state < states self.now.question.now }
@@ -88,7 +88,7 @@ impl Guesses<'_> {
         self.best(steps, state, budget)
     }
 
-    /// Gives the down value of the best choice of a state.
+    /// Returns the down value of the best choice of a state.
     #[cycle(local)]
     fn best(&self, steps: u32, state: u32, budget: &mut u32) -> Option<u64>
         requires { state < states self.now.question.now }
@@ -103,7 +103,7 @@ impl Guesses<'_> {
         Some(best)
     }
 
-    /// Gives the down value of a choice.
+    /// Returns the down value of a choice.
     #[cycle(local)]
     fn value(&self, steps: u32, state: u32, choice: u32, budget: &mut u32) -> Option<u64>
         requires state { state < states self.now.question.now }
@@ -115,7 +115,7 @@ impl Guesses<'_> {
         Some(Quotient::new(sum, total).down())
     }
 
-    /// Gives the sum of weight times entry of the successor.
+    /// Returns the sum of weight times entry of the successor.
     #[cycle(local)]
     fn sum(&self, steps: u32, state: u32, choice: u32, budget: &mut u32) -> Option<u128>
         requires state { state < states self.now.question.now }
@@ -133,7 +133,7 @@ impl Guesses<'_> {
     }
 }
 
-/// Gives the better of two values for a side.
+/// Returns the better of two values for a side.
 fn better(side: Side, one: u64, other: u64) -> u64
     ensures { result ≡ better side one other }
 {

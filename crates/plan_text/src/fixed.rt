@@ -32,7 +32,7 @@ pub fn append_fixed(text: &mut Vec<u8>, units: u64) -> Result<(), OutOfMemory>
     append(text, &last_digits_of(units % UNIT))
 }
 
-// Gives the last fifteen digits of a number.
+// Returns the last fifteen digits of a number.
 fn last_digits_of(number: u64) -> [u8; UNIT_DIGITS]
     ensures { result ≡ last_digits unit_digits number }
 {

@@ -17,7 +17,7 @@ use std::alloc::Global;
 use text_lines::{first_field, first_line, only_blank};
 
 /// Reads the certificate of this many states from a text. It passes over the lines before the first one whose first
-/// field is `certificate`. A value of the first version is as many units as its decimals say. It gives what the text
+/// field is `certificate`. A value of the first version is as many units as its decimals say. It returns what the text
 /// says, or the first fault of the text, line by line, unless memory runs out.
 pub fn read_plan(alloc: Global, bytes: &[u8], states: u32) -> Result<Plan, PlanFault>
     requires { length bytes.now ≤ most_bytes }
@@ -59,7 +59,7 @@ fn read_states(
     Ok(plan)
 }
 
-// Gives what the first line says of this state and the text after the line, or its fault.
+// Returns what the first line says of this state and the text after the line, or its fault.
 fn read_state(
     version: Version,
     state: u32,

@@ -15,7 +15,7 @@ pub enum Version {
 }
 
 impl Version {
-    /// Gives the version that a field names.
+    /// Returns the version that a field names.
     pub fn named(field: &[u8]) -> Option<Version>
         ensures { result ≡ version_in field.now }
     {

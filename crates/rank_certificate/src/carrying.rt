@@ -17,7 +17,7 @@ impl Asked<'_> {
     ghost use Rattle.rank_certificate.specs.Carrying.{MayTake};
     ghost use Rattle.rank_certificate.specs.inside.OfAsked.{states_in, value_in, only_in, CarriesIn, IsFirstCarryingIn};
 
-    /// Gives the first choice below a limit that carries a state ([`Asked::carries`]).
+    /// Returns the first choice below a limit that carries a state ([`Asked::carries`]).
     pub fn first_carrying(
         &self,
         row: &Row<'_>,
@@ -42,7 +42,7 @@ impl Asked<'_> {
         None
     }
 
-    /// Gives a number such that no choice below it may be taken: the given choice of the maximiser, or else 0.
+    /// Returns a number such that no choice below it may be taken: the given choice of the maximiser, or else 0.
     fn first_taken(&self, state: u32) -> u32
         requires { state < states_in self.now }
         ensures { (value : ℕ → ℕ) (c : ℕ) → c < result

@@ -10,7 +10,7 @@ ghost use Rattle.reward_check.specs.Certificates.{flat_rewards};
 use fixed_bellman::{gives, holds};
 use game_model::Question;
 
-/// Gives the reward of a choice.
+/// Returns the reward of a choice.
 fn reward_of(question: &Question, rewards: &[u64], state: u32, choice: u32) -> u64
     requires { state < states question.now }
     ensures { result ≡ flat_rewards question.now.game rewards.now state choice }

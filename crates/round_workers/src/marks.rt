@@ -24,7 +24,7 @@ pub fn has_mark(marks: &[bool], from: u32, to: u32) -> bool
     any
 }
 
-/// Gives the first place from one on that has a mark, or the number of marks if there is none.
+/// Returns the first place from one on that has a mark, or the number of marks if there is none.
 pub fn next_mark(marks: &[bool], from: u32) -> u32
     requires few { length marks.now ≤ most_states }
     requires from { from ≤ length marks.now }
@@ -53,7 +53,7 @@ fn marked_stretch(marks: &[bool], from: u32) -> u32
     place
 }
 
-/// Gives the first place from one on that has a mark. It looks at one place after another.
+/// Returns the first place from one on that has a mark. It looks at one place after another.
 fn first_mark(marks: &[bool], from: u32) -> u32
     requires few { length marks.now ≤ most_states }
     requires from { from ≤ length marks.now }

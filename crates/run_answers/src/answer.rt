@@ -122,8 +122,8 @@ fn line_of(
     }
 }
 
-// Gives the status of a report: `SomeFalse` if some line is False, else `SomeUndecided` if some line is Undecided, and
-// else `Fine`.
+// Returns the status of a report: `SomeFalse` if some line is False, else `SomeUndecided` if some line is Undecided,
+// and else `Fine`.
 fn status_of(lines: &[ReportLine]) -> Status
     ensures status { result ≡ status_of lines.now }
     ensures answer { IsAnswer result }

@@ -75,7 +75,7 @@ fn read_in_any_order<H: Shelf>(
     read_lines_from(alloc, shelf, name, limit, reader)
 }
 
-// Gives what was read, unless a line was out of order.
+// Returns what was read, unless a line was out of order.
 fn in_order(read: Result<Game, FileEnd<Halt>>) -> Option<Result<Game, FileEnd<TraFault>>>
     ensures { result ≡ in_order_of read }
 {

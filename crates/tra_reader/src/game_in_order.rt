@@ -63,7 +63,7 @@ impl GameInOrder {
         })
     }
 
-    /// Gives the place of the choice under way, and 0 before the first transition.
+    /// Returns the place of the choice under way, and 0 before the first transition.
     pub fn place(&self) -> u64
         ensures { result ≡ place_under_way self.now }
     {

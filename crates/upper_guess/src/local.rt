@@ -38,7 +38,7 @@ impl Guesses<'_> {
         entry < raised
     }
 
-    /// Gives the entry at a state after `steps` up steps, if the budget suffices.
+    /// Returns the entry at a state after `steps` up steps, if the budget suffices.
     #[cycle(local)]
     fn entry(&self, steps: u32, state: u32, budget: &mut u32) -> Option<u64>
         requires { state < states self.now.question.now }
@@ -60,7 +60,7 @@ impl Guesses<'_> {
         self.best(steps - 1, state, budget)
     }
 
-    /// Gives the up value of the best choice of a state.
+    /// Returns the up value of the best choice of a state.
     #[cycle(local)]
     fn best(&self, steps: u32, state: u32, budget: &mut u32) -> Option<u64>
         requires { state < states self.now.question.now }
@@ -75,7 +75,7 @@ impl Guesses<'_> {
         Some(best)
     }
 
-    /// Gives the up value of a choice.
+    /// Returns the up value of a choice.
     #[cycle(local)]
     fn value(&self, steps: u32, state: u32, choice: u32, budget: &mut u32) -> Option<u64>
         requires state { state < states self.now.question.now }
@@ -87,7 +87,7 @@ impl Guesses<'_> {
         Some(Quotient::new(sum, total).up())
     }
 
-    /// Gives the sum of weight times entry of the successor.
+    /// Returns the sum of weight times entry of the successor.
     #[cycle(local)]
     fn sum(&self, steps: u32, state: u32, choice: u32, budget: &mut u32) -> Option<u128>
         requires state { state < states self.now.question.now }
@@ -105,7 +105,7 @@ impl Guesses<'_> {
     }
 }
 
-/// Gives the better of two values for a side.
+/// Returns the better of two values for a side.
 fn better(side: Side, one: u64, other: u64) -> u64
     ensures { result ≡ better side one other }
 {

@@ -48,7 +48,7 @@ impl<F: Fn(u64, u64) -> bool> StopRule<F> {
         }
     }
 
-    /// Gives the bound.
+    /// Returns the bound.
     pub fn bound(&self) -> Bound
         ensures { result ≡ bound_of self.now }
     {

@@ -53,7 +53,7 @@ impl Verdict {
     }
 }
 
-/// Gives the verdict of a lower and an upper bound, in units, on a bound of the value between them.
+/// Returns the verdict of a lower and an upper bound, in units, on a bound of the value between them.
 ///
 /// | Bound | `Yes` if | `No` if |
 /// |---|---|---|
