@@ -114,7 +114,7 @@ fn iterate<R: Threads + Sync, G: Gate + Sync>(
     table
 }
 
-/// Fills the next table by `workers` workers. Says whether one of its entries is not the same as before.
+/// Fills the next table by `workers` workers. Returns whether one of its entries is not the same as before.
 fn step<R: Threads + Sync, G: Gate + Sync>(
     rt: &R,
     question: &Question,
@@ -134,7 +134,7 @@ fn step<R: Threads + Sync, G: Gate + Sync>(
     step_chunks(rt, tables, gate, size, 0, next)
 }
 
-/// Says how many workers a step after the first has: one, and one more for each `EDGES_FOR_A_WORKER` edges.
+/// Returns how many workers a step after the first has: one, and one more for each `EDGES_FOR_A_WORKER` edges.
 fn busy_workers(question: &Question, workers: u32) -> u32
     requires { 1 ≤ workers }
     ensures some { 1 ≤ result }

@@ -77,7 +77,7 @@ pub fn bracket_of<R: Threads + Sync, F: Fn(u64, u64) -> bool, G: Gate + Sync>(
     })
 }
 
-// Says whether the run is settled. If the last round changed nothing on either question, no table is tested.
+// Returns whether the run is settled. If the last round changed nothing on either question, no table is tested.
 fn is_stable(
     question: &Question,
     swapped_question: &Question,

@@ -113,7 +113,8 @@ impl<F: Fn(u64, u64) -> bool> Ending<'_, F> {
         Ok(Some(SettlingGuess { lower, guess }))
     }
 
-    /// Says whether the rule says yes at each initial state, to the lower bound and the lesser of the two upper bounds.
+    /// Returns whether the rule says yes at each initial state, to the lower bound and the lesser of the two upper
+    /// bounds.
     fn settles(&self, lower: &[u64], swapped_values: &[u64], guess: &[u64]) -> bool
         requires rule { IsStopRule F.Fn self.now.rule.now }
         requires lower { length lower.now ≡ states self.now.question.now }

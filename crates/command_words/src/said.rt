@@ -111,7 +111,7 @@ fn file_word(word: Option<&str>) -> Option<&str>
     }
 }
 
-// Says whether a file has a name, if it is given.
+// Returns whether a file has a name, if it is given.
 fn is_named_where_given(word: Option<&str>) -> bool
     ensures { IsTrue result ↔ IsNamedWhereGiven (option_map (λ w. w.now) word.entry) }
 {
@@ -121,7 +121,7 @@ fn is_named_where_given(word: Option<&str>) -> bool
     }
 }
 
-// Says whether a flag is given, by its value.
+// Returns whether a flag is given, by its value.
 fn is_given(value: Option<&str>) -> bool
     ensures { IsTrue result ↔ (option_map (λ w. w.now) value.entry ≡ Some (codes "true")) }
 {

@@ -47,7 +47,7 @@ impl<'g> Chain<'g> {
         Chain { game, policy }
     }
 
-    /// Says how many nodes there are.
+    /// Returns how many nodes there are.
     pub fn nodes(&self) -> usize
         ensures value { result ≡ nodes_in self.now }
         ensures few { result < 2 ^ 31 }

@@ -56,7 +56,7 @@ impl Draft {
         })
     }
 
-    /// Says how many choices have ended, which is the number of the next one.
+    /// Returns how many choices have ended, which is the number of the next one.
     pub fn choices(&self) -> usize
         ensures { result ≡ ended_choices self.now }
     {

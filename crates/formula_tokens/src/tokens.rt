@@ -28,14 +28,14 @@ pub enum Lead<'a> {
 }
 
 impl<'a> Token<'a> {
-    /// Says whether the token has this spelling.
+    /// Returns whether the token has this spelling.
     pub fn is(&self, spelling: &str) -> bool
         ensures { result ≡ bytes_eq self.now.spelling.now spelling.now }
     {
         self.spelling == spelling.as_bytes()
     }
 
-    /// Says whether the token is a number: it begins with a digit.
+    /// Returns whether the token is a number: it begins with a digit.
     pub fn is_number(&self) -> bool
         ensures { result ≡ is_number self.now.spelling.now }
     {

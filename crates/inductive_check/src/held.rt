@@ -9,7 +9,7 @@ ghost use Rattle.inductive_check.specs.Held.{IsHeldAt, AllHeld, NoneHeld, IsFirs
 use fixed_bellman::holds;
 use game_model::Question;
 
-/// Says whether a choice is held to the entry of its state.
+/// Returns whether a choice is held to the entry of its state.
 pub fn is_held(question: &Question, upper: &[u64], state: u32, choice: u32) -> bool
     requires length { length upper.now ≡ states question.now }
     requires units { All (λ v. v ≤ unit) upper.now }

@@ -44,7 +44,7 @@ pub fn check_replies(
     Ok(())
 }
 
-/// Says whether a reply is held to the entry of its state, if the state needs one.
+/// Returns whether a reply is held to the entry of its state, if the state needs one.
 fn answers(question: &Question, upper: &[u64], state: u32, reply: Option<u32>) -> bool
     requires length { length upper.now ≡ states question.now }
     requires units { All (λ v. v ≤ unit) upper.now }
@@ -63,7 +63,7 @@ fn answers(question: &Question, upper: &[u64], state: u32, reply: Option<u32>) -
     }
 }
 
-/// Says whether a state is one of the minimiser, and neither a goal nor dead.
+/// Returns whether a state is one of the minimiser, and neither a goal nor dead.
 fn needs_reply(question: &Question, state: u32) -> bool
     requires { state < states question.now }
     ensures { IsTrue result ↔ NeedsReply question.now state }

@@ -76,7 +76,7 @@ impl Header {
         }
     }
 
-    // Says whether an item with this index would pass a limit.
+    // Returns whether an item with this index would pass a limit.
     fn is_over(&self, kind: FileKind, index: u64) -> bool
         ensures { result ≡ passes_limit kind self.now index }
     {

@@ -22,7 +22,7 @@ fn only_whole(line: &[u8]) -> Option<u64>
     whole(field)
 }
 
-// Says whether each field is a number.
+// Returns whether each field is a number.
 fn all_whole(line: &[u8]) -> bool
     ensures { result ≡ list_all is_number (fields_of line.now) }
 {

@@ -65,7 +65,7 @@ impl Labels {
         }
     }
 
-    /// Says whether there is a label with this name.
+    /// Returns whether there is a label with this name.
     pub fn knows(&self, name: &[u8]) -> bool
         ensures { result ≡ is_known self.now name.now }
     {

@@ -58,7 +58,7 @@ impl Owners {
         }
     }
 
-    /// Says whether there is a player with this name.
+    /// Returns whether there is a player with this name.
     pub fn knows(&self, name: &[u8]) -> bool
         ensures { result ≡ is_player self.now name.now }
     {

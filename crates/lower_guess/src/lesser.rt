@@ -52,7 +52,7 @@ fn lesser_entry(question: &Question, table: &[u64], marks: &[bool], state: u32) 
     down_state(question, state, table).0
 }
 
-/// Says whether two tables have the same entries.
+/// Returns whether two tables have the same entries.
 pub fn is_same(one: &[u64], other: &[u64]) -> bool
     requires { length one.now ≡ length other.now }
     ensures { IsTrue result ↔ ((s : ℕ) → s < length one.now → slice_index one.now s ≡ slice_index other.now s) }

@@ -19,8 +19,8 @@ const MOST_TRIES: u32 = 256;
 const STATES_FOR_A_LOOK: u32 = 4;
 
 impl Guesses<'_> {
-    /// Says whether the last table of the excess is seen to fall at one of some states. Then each table of the excess
-    /// falls, and is refused.
+    /// Returns whether the last table of the excess is seen to fall at one of some states. Then each table of the
+    /// excess falls, and is refused.
     pub fn falls_to_the_last(&self) -> bool
         ensures { IsTrue result → AreRefusedOf self.now }
     {
@@ -38,7 +38,7 @@ impl Guesses<'_> {
         false
     }
 
-    /// Says whether the last table is seen to fall at this state, if the budget suffices.
+    /// Returns whether the last table is seen to fall at this state, if the budget suffices.
     fn falls_at(&self, state: u32, budget: &mut u32) -> bool
         requires { state < states self.now.question.now }
         ensures { IsTrue result → AreRefusedOf self.now }

@@ -149,7 +149,7 @@ fn sweep<R: Threads + Sync, P: Posing + Send + Sync, G: Gate + Sync>(
     (pass, changed)
 }
 
-/// Says how many workers a round after the first has: one, and one more for each `EDGES_FOR_A_WORKER` edges of the
+/// Returns how many workers a round after the first has: one, and one more for each `EDGES_FOR_A_WORKER` edges of the
 /// states that are updated. About as many states are updated as edges lead to a changed state, and they have about as
 /// many edges as others.
 pub fn busy_workers(question: &Question<'_>, workers: u32, changed: u32) -> u32

@@ -68,7 +68,7 @@ impl StateLine {
         })
     }
 
-    // Says whether the bounds are values, and the choices and the rank are within their limits.
+    // Returns whether the bounds are values, and the choices and the rank are within their limits.
     fn is_in_range(&self) -> bool
         ensures { result ≡ is_in_range self.now }
     {

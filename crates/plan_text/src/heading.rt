@@ -40,7 +40,7 @@ pub fn read_heading(text: &[u8], states: u32) -> Result<(Version, &[u8], u32), P
     })
 }
 
-// Says whether the first field of a line is `certificate`.
+// Returns whether the first field of a line is `certificate`.
 fn is_heading(line: &[u8]) -> bool
     ensures { result ≡ is_heading (fields_of line.now) }
 {

@@ -164,7 +164,7 @@ pub fn all_ranks(alloc: Global, ranks: &[Option<u32>]) -> Result<Option<Vec<u32>
     Ok(Some(numbers))
 }
 
-/// Says whether no state refuses the values at once.
+/// Returns whether no state refuses the values at once.
 fn all_stand(question: &Question, values: &[u64]) -> bool
     requires values { length values.now ≡ states question.now }
     requires units { All (λ v. v ≤ unit) values.now }
@@ -178,7 +178,7 @@ fn all_stand(question: &Question, values: &[u64]) -> bool
     true
 }
 
-/// Says whether a state does not refuse the values at once.
+/// Returns whether a state does not refuse the values at once.
 fn stands(question: &Question, values: &[u64], state: u32) -> bool
     requires values { length values.now ≡ states question.now }
     requires units { All (λ v. v ≤ unit) values.now }

@@ -24,7 +24,7 @@ fn reward_of(question: &Question, rewards: &[u64], state: u32, choice: u32) -> u
     }
 }
 
-/// Says whether the reward of a choice plus its weighted average over a table is at most the entry of the state.
+/// Returns whether the reward of a choice plus its weighted average over a table is at most the entry of the state.
 pub fn is_covered(
     question: &Question,
     rewards: &[u64],
@@ -48,7 +48,7 @@ pub fn is_covered(
     holds(&question.row(state), choice, table, entry - reward)
 }
 
-/// Says whether the reward of a choice plus its weighted average over a table is at least the entry of the state.
+/// Returns whether the reward of a choice plus its weighted average over a table is at least the entry of the state.
 pub fn is_paid(question: &Question, rewards: &[u64], table: &[u64], state: u32, choice: u32) -> bool
     requires length { length table.now ≡ states question.now }
     requires units { All (λ v. v ≤ unit) table.now }

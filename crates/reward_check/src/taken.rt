@@ -13,7 +13,7 @@ use crate::range::ChoiceRange;
 use crate::tables::RewardTables;
 use game_model::Side;
 
-/// Says whether a part looks at a state.
+/// Returns whether a part looks at a state.
 pub fn looks_at(tables: &RewardTables<'_>, part: Part, state: u32) -> bool
     requires { state < states tables.now.question.now }
     ensures { IsTrue result ↔ LooksAt part (said tables.now) state }
@@ -93,7 +93,7 @@ pub fn missing(part: Part) -> RewardCause
     }
 }
 
-/// Says whether two sides are the same.
+/// Returns whether two sides are the same.
 fn same(one: Side, other: Side) -> bool
     ensures { IsTrue result ↔ (one ≡ other) }
 {

@@ -55,7 +55,7 @@ pub fn report_of(
     })
 }
 
-/// Says whether the tables of a formula are those of its dual, whose bounds are mirrored when they are printed.
+/// Returns whether the tables of a formula are those of its dual, whose bounds are mirrored when they are printed.
 pub fn is_mirrored(formula: &Formula) -> bool
     ensures { result ≡ is_mirrored formula.now.kind }
 {

@@ -247,7 +247,7 @@ impl Lists {
     }
 }
 
-// Says whether no state is both a goal and dead.
+// Returns whether no state is both a goal and dead.
 fn are_apart(goal: &[bool], dead: &[bool]) -> bool
     requires { length goal.now ≡ length dead.now }
     ensures { OnTrue result ((s : ℕ) → slice_index_or goal.now s false ≡ true

@@ -27,7 +27,7 @@ fn power(base: u128, exponent: u32) -> Option<u128> {
     Some(found)
 }
 
-// Says whether two bounds are as close as this many rounds promise, or nothing if the numbers do not fit.
+// Returns whether two bounds are as close as this many rounds promise, or nothing if the numbers do not fit.
 fn are_close(ending: Ending, rounds: u32, lower: u64, upper: u64) -> Option<bool> {
     let turns = rounds.checked_div(ending.steps)?;
     let whole = power(ending.parts, turns)?;

@@ -44,7 +44,7 @@ impl View {
         }
     }
 
-    /// Says whether the view is live.
+    /// Returns whether the view is live.
     pub fn is_live(&self) -> bool
         ensures { result ≡ is_some self.now }
     {

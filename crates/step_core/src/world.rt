@@ -113,7 +113,7 @@ impl<'q> World<'q> {
         let _ = &self.words;
     }
 
-    // Says whether a view is live.
+    // Returns whether a view is live.
     fn is_live(&self, view: u32) -> bool
         ensures { result ≡ is_some (view_of self.now view) }
     {
@@ -172,7 +172,7 @@ impl<'q> World<'q> {
         Ok(())
     }
 
-    // Says whether the choice of a word is out of range at a state.
+    // Returns whether the choice of a word is out of range at a state.
     fn is_bad_choice(&self, state: u32, choice: u32) -> bool
         requires { state < states self.now.question }
         ensures { result ≡ is_bad_choice self.now.question state choice }

@@ -106,7 +106,7 @@ fn without_want(read: Result<Game, FileEnd<TraFault>>) -> Result<Game, FileEnd<T
     }
 }
 
-// Says whether memory ran out, for the whole text or for a choice.
+// Returns whether memory ran out, for the whole text or for a choice.
 fn is_out_of_memory(cause: &TraCause) -> bool
     ensures { result ≡ is_out_of_memory cause.now }
 {

@@ -70,7 +70,7 @@ impl GameInOrder {
         place_at(self.whole.state, self.whole.choice)
     }
 
-    /// Says whether a transition was added.
+    /// Returns whether a transition was added.
     pub fn has_begun(&self) -> bool
         ensures { IsTrue result ↔ (0 < length self.now.parts) }
     {

@@ -17,8 +17,8 @@ use game_model::{Side, UNIT};
 const LEAST_BUDGET: u32 = 1_000;
 
 impl Guesses<'_> {
-    /// Says whether a table is seen to be refused at this state, when a table after `made` up steps is at hand. It is
-    /// not seen if the recursion would look into more states than the question has and, if these are few, into more
+    /// Returns whether a table is seen to be refused at this state, when a table after `made` up steps is at hand. It
+    /// is not seen if the recursion would look into more states than the question has and, if these are few, into more
     /// than twice as many as the up steps from that table on: then the table costs no more.
     pub fn refuses_at(&self, steps: u32, state: u32, made: u32) -> bool
         requires steps { steps ≤ most_steps }

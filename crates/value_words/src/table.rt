@@ -99,8 +99,8 @@ impl<'q, P: Posing> ValueTable<'q, P> {
         self.question
     }
 
-    /// Raises the word of a state to its step over the words, if that is greater. Says whether an exchange of this call
-    /// won.
+    /// Raises the word of a state to its step over the words, if that is greater. Returns whether an exchange of this
+    /// call won.
     pub fn update(&self, pass: &mut Pass<P>, state: u32) -> bool
         requires pass { IsOf self.now pass.old }
         requires state { state < states P.posed }
@@ -245,7 +245,7 @@ impl<'q, P: Posing> ValueTable<'q, P> {
             .compare_exchange::<Exchanging>(&mut pass.seat, state as usize, from, to)
     }
 
-    // Tries to exchange the word until it has at least this value. Says whether an exchange won.
+    // Tries to exchange the word until it has at least this value. Returns whether an exchange won.
     fn exchange_up(&self, pass: &mut Pass<P>, state: u32, to: u64) -> bool
         requires pass { IsOf self.now pass.old }
         requires state { state < states P.posed }

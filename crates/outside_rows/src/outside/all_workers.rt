@@ -34,7 +34,7 @@ impl LastGate {
         )
     }
 
-    // Says whether the last of the workers passed the gate, and no later one did.
+    // Returns whether the last of the workers passed the gate, and no later one did.
     fn has_all(&self) -> bool {
         let (passed, behind) = self.counts();
         passed > 0 && behind == 0
