@@ -27,7 +27,7 @@ use Rattle.stogame_app.specs.Status.{sure_status}
 use Rattle.stogame_app.specs.Commands.{check_paths, solve_paths}
 
 -- The words denote this command. What it asks poses this problem, by this formula, with some texts; if the holding is
--- told, these are the texts that are held. At most `most_bytes` bytes were taken from the last text.
+-- known, these are the texts that are held. At most `most_bytes` bytes were taken from the last text.
 pub record WordsPose (words : List (List ℕ)) (holding : Option Holding) (taken : ℕ) (command : Command) (asked : Asked)
     (paths : Paths) (problem : Problem) (formula : Tree) : Type 0 where
   pub denoted : AreCommand words command

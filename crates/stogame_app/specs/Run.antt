@@ -106,7 +106,7 @@ NeedNoFile words = (command : Command) → AreCommand words command → ¬ Reads
 abbrev pub IsReadable : {S : Type 0} → (S → Bool) → (S → ℕ) → List (List ℕ) → S → S → Type 0
 IsReadable steady faults words old new = NeedNoFile words ⊎ ((steady old ≡ true) ⊎ (¬ Rose (faults old) (faults new)))
 
--- The words denote a command and, if the holding is told, a text that the command needs is not held.
+-- The words denote a command and, if the holding is known, a text that the command needs is not held.
 pub record IsMissingOfWords (words : List (List ℕ)) (holding : Option Holding) : Type 0 where
   pub command : Command
   pub denoted : AreCommand words command

@@ -16,7 +16,7 @@ pub enum TraCause {
     BadField,
     /// A line has another number of fields than its kind allows.
     FieldCount,
-    /// A number of the header, or the number of a choice, is above its limit.
+    /// A number of the header is above its limit, or the number of a choice is not below its limit.
     OverLimit,
     /// The header states no state.
     NoStates,
