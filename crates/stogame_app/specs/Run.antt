@@ -66,13 +66,13 @@ IsOutput words holding taken text = ((status : Status) × IsReportOfWords words 
 
 -- 2. How a run ends.
 
--- There is such a text, and the output grew by it if the bytes of the output are told.
+-- There is such a text, and the output grew by it if the bytes of the output are known.
 pub record Writes (old new : Option (List ℕ)) (IsText : List ℕ → Type 0) : Type 0 where
   pub text : List ℕ
   pub is : IsText text
   pub grows : GrowsBy old new text
 
--- There is such a text, and the output grew by a prefix of it if the bytes of the output are told.
+-- There is such a text, and the output grew by a prefix of it if the bytes of the output are known.
 pub record WritesFront (old new : Option (List ℕ)) (IsText : List ℕ → Type 0) : Type 0 where
   pub text : List ℕ
   pub is : IsText text

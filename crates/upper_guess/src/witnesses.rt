@@ -2,7 +2,7 @@
 
 use crate::guesses::MOST_STEPS;
 
-/// For each number of up steps there is a state to look at first: the one that rose most from the last table of this
+/// For each number of up steps there is a state to look at first: the one that rose most from the last table of that
 /// many up steps that was made and refused. The states change how long a guess takes, and not which it is.
 #[derive(Drop)]
 pub struct Witnesses {
