@@ -1,9 +1,9 @@
 //! This module has the bracket that a run gives.
 
-/// A bracket has a lower and an upper bound in units for each state, choices of the maximiser with ranks that prove the
-/// lower bounds, replies of the minimiser that hold the maximiser to the upper bounds, the number of completed rounds,
-/// and whether the run is settled. It is settled if no state's down value is above its entry, in the base and in the
-/// table of swapped values, which are lower bounds of the swapped question.
+/// A bracket has a lower and an upper bound in units for each state. It has choices of the maximiser with ranks that
+/// prove the lower bounds, and replies of the minimiser that hold the maximiser to the upper bounds. It also has the
+/// number of completed rounds, and says whether the run is settled. The run is settled if no state's down value is
+/// above its entry, in the base and in the table of swapped values, which are lower bounds of the swapped question.
 #[derive(Drop)]
 pub struct Bracket {
     /// The rounds reach this table from below: for some k, each entry is at most the k-step value of its state.

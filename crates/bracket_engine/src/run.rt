@@ -32,9 +32,9 @@ pub const MOST_ROUNDS: u32 = 1_000_000;
 /// before each state. The marks are the question's zero set. The only error is that memory ran out.
 ///
 /// A round updates the lower table and then the swapped values, which are lower bounds of the swapped question. The run
-/// ends early if both are settled. After 1, 2, 4, 8 and so on rounds a guess is made over the lower bounds, and the run
-/// ends if the rule is settled at each initial state by two bounds: the lower bound, and the lesser of the guess and of
-/// the unit less the swapped value.
+/// ends early if both are settled. After 1, 2, 4, 8 and so on rounds a guess is made over the lower bounds. The run
+/// ends if two bounds settle the rule at each initial state: the lower bound, and the lesser of the guess and of the
+/// unit less the swapped value.
 ///
 /// The base is the last lower table. The lower table is the lower guess of the base, which can find a value that only
 /// the limit reaches, and no number of rounds. The upper table is the least of the unit less the swapped values, of the

@@ -78,9 +78,9 @@ pub record WritesFront (old new : Option (List ℕ)) (IsText : List ℕ → Type
   pub is : IsText text
   pub grows : GrowsByPrefix old new text
 
--- A run with these words ends with this status and turns the first output into the second. It has written a report, a
--- refusal or the usage line; or it ended with a fault of reading or because memory ran out and wrote nothing; or it
--- ended with a fault of writing and wrote a prefix of such a text.
+-- A run with these words ends with this status and turns the first output into the second. Either it has written a
+-- report, a refusal or the usage line. Or it ended with a fault of reading, or because memory ran out, and wrote
+-- nothing. Or it ended with a fault of writing, and wrote a prefix of such a text.
 abbrev pub IsEnding : List (List ℕ) → Option Holding → ℕ → Option (List ℕ) → Option (List ℕ) → Status → Type 0
 IsEnding words holding taken old new Fine = Writes old new (λ text. IsReportOfWords words holding taken text Fine)
 IsEnding words holding taken old new SomeFalse =

@@ -12,8 +12,8 @@ use crate::guesses::Guesses;
 use fixed_bellman::Quotient;
 use game_model::{Side, UNIT};
 
-/// If the question has fewer states than this, a test at one state may look into as many as this, but into no more than
-/// twice as many as the up steps of the table would: a table would also have to be allocated.
+/// If the question has fewer states than this, a test at one state may look into as many states as this. But it looks
+/// into no more than twice as many as the up steps of the table would, because a table would also have to be allocated.
 const LEAST_BUDGET: u32 = 1_000;
 
 impl Guesses<'_> {
