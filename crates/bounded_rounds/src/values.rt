@@ -1,4 +1,4 @@
-//! This module finds the values of k steps: the steps from the table that iteration opens with.
+//! This module finds the k-step values: the steps from the table that iteration opens with.
 
 ghost use Rattle.std.specs.Prelude.{◌≡◌, ◌≤◌, ◌<◌, ℕ, length, slice_index, All, IfOk};
 ghost use Rattle.game_model.specs.Query.{states};
@@ -14,7 +14,7 @@ use std::alloc::{AllocError, Global};
 use std::thread::Threads;
 
 /// Returns what [`bounded`] returns from the table that iteration opens with. Exact steps from this table give the
-/// values of k steps. The only error is that memory ran out.
+/// k-step values. The only error is that memory ran out.
 pub fn bounded_values<R: Threads + Sync, G: Gate + Sync>(
     rt: &R,
     alloc: Global,

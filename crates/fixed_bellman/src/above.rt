@@ -11,8 +11,8 @@ use crate::sum::quotient;
 use crate::values::Values;
 use game_model::{Question, Side, UNIT};
 
-/// Returns the step of a state that is neither a goal nor dead, and the choice for it, if the step is above a floor.
-/// Else it returns the floor and choice 0. It divides only for a gain.
+/// Returns the step of a state that is neither goal nor dead, and the choice for it, if the step is above a floor. Else
+/// it returns the floor and choice 0. It divides only for a gain.
 pub fn step_above<V: Values>(
     question: &Question,
     values: &V,

@@ -11,8 +11,8 @@ use crate::above::step_above;
 use crate::values::Entries;
 use game_model::{Question, UNIT};
 
-/// Returns the down step of a table at a state. At a Max state that is neither a goal nor dead it also returns the
-/// first choice that has this value. Elsewhere the choice is 0.
+/// Returns the down step of a table at a state. At a Max state that is neither goal nor dead it also returns the first
+/// choice that has this value. Elsewhere the choice is 0.
 pub fn down_state(question: &Question, state: u32, table: &[u64]) -> (u64, u32)
     requires state { state < states question.now }
     requires length { length table.now ≡ states question.now }

@@ -14,7 +14,7 @@ use game_outside::OutOfMemory;
 use std::alloc::Global;
 
 /// Checks replies, one for each state, to a table that [`crate::check_upper`] passes: the reply of each state of the
-/// minimiser that is neither a goal nor dead is a choice that is held to its entry. The replies of other states are not
+/// minimiser that is neither goal nor dead is a choice that is held to its entry. The replies of other states are not
 /// read. Then the minimiser who plays them holds every opponent to the table at every horizon. Else the fault names the
 /// first state with no such reply. It takes no memory.
 pub fn check_replies(
@@ -63,7 +63,7 @@ fn answers(question: &Question, upper: &[u64], state: u32, reply: Option<u32>) -
     }
 }
 
-/// Returns whether a state is one of the minimiser, and neither a goal nor dead.
+/// Returns whether a state is one of the minimiser, and neither goal nor dead.
 fn needs_reply(question: &Question, state: u32) -> bool
     requires { state < states question.now }
     ensures { IsTrue result ↔ NeedsReply question.now state }
@@ -78,7 +78,7 @@ fn needs_reply(question: &Question, state: u32) -> bool
 }
 
 /// Returns the first replies to a table that [`crate::check_upper`] passes: for each state of the minimiser that is
-/// neither a goal nor dead the first choice that is held to its entry, and none for each other state. The minimiser who
+/// neither goal nor dead the first choice that is held to its entry, and none for each other state. The minimiser who
 /// plays them holds every opponent to the table at every horizon. The only error is that memory ran out.
 pub fn replies(
     alloc: Global,

@@ -24,7 +24,7 @@ use std::thread::Threads;
 use verdicts::How;
 use verdicts::laws::verdicts_of_fractions_are_right;
 
-/// Reports on `F<=k` and `U<=k` from the values of k steps. The only error is that memory ran out.
+/// Reports on `F<=k` and `U<=k` from the k-step values. The only error is that memory ran out.
 pub fn within_report<R: Threads + Sync, G: Gate + Sync>(
     rt: &R,
     alloc: Global,

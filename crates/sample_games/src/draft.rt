@@ -174,7 +174,7 @@ fn choice(alloc: Global, states: u32, edges: &[(u32, u64)]) -> Option<Choice>
     Some(Choice::of_edges(made))
 }
 
-/// Poses the question of these lists, if each has one entry per state and no state is both a goal and dead.
+/// Poses the question of these lists, if each has one entry per state and no state is both goal and dead.
 pub(crate) fn question(
     game: &Game,
     sides: Vec<Side>,
@@ -247,7 +247,7 @@ impl Lists {
     }
 }
 
-// Returns whether no state is both a goal and dead.
+// Returns whether no state is both goal and dead.
 fn are_apart(goal: &[bool], dead: &[bool]) -> bool
     requires { length goal.now ≡ length dead.now }
     ensures { OnTrue result ((s : ℕ) → slice_index_or goal.now s false ≡ true

@@ -2,7 +2,7 @@
 //! Optimistic value iteration, CAV 2020).
 //!
 //! [`guess`] tries tables one after another, by rising excess over the lower table and then by up steps, and gives the
-//! first whose own up step is nowhere above it. Such a table is inductive, so no value of k steps is above it. The last
+//! first whose own up step is nowhere above it. Such a table is inductive, so no k-step value is above it. The last
 //! excess is above the unit, and its first table is always accepted: some table is found for every lower table.
 //!
 //! A table is made only if it is not seen to be refused at one state: the one that rose most from the last table of as

@@ -268,7 +268,7 @@ impl<'q, P: Posing> ValueTable<'q, P> {
         false
     }
 
-    // Does `update` at a state that is neither a goal nor dead.
+    // Does `update` at a state that is neither goal nor dead.
     fn raise(&self, pass: &mut Pass<P>, state: u32) -> bool
         requires pass { IsOf self.now pass.old }
         requires state { state < states P.posed }
