@@ -1,4 +1,4 @@
-//! This module finds the k-step values: the steps from the table that iteration opens with.
+//! This module finds bounds of the k-step values: rounded steps from the table that iteration opens with.
 
 ghost use Rattle.std.specs.Prelude.{◌≡◌, ◌≤◌, ◌<◌, ℕ, length, slice_index, All, IfOk};
 ghost use Rattle.game_model.specs.Query.{states};
