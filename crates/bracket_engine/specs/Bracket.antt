@@ -1,5 +1,6 @@
 -- A run of rounds gives a sound lower table, the base, and a sound upper table. These definitions say how near the
--- tables are to the r-step values. The swapped values are lower bounds of the swapped question.
+-- tables are to the r-step values and to the values of not being lost after r steps. The swapped values are lower
+-- bounds of the swapped question.
 use Rattle.std.specs.Prelude.{◌≡◌, ℕ, ◌+◌, ◌-◌, ◌*◌, ◌^◌, ◌<◌, ◌≤◌, ◌↔◌, ◌⊎◌, Bool, true, List, length, All, map, min}
 use Rattle.std.specs.Prelude.{slice_index, Option, None, IfSome}
 use Rattle.game_model.specs.Query.{Query, states}
@@ -42,8 +43,8 @@ pub record IsLeastSettled (q : Query) (table : ℕ → ℕ) : Type 0 where
   pub settled : IsSettled q table
   pub least : (other : ℕ → ℕ) → IsBelow q (opening q) other → IsSettled q other → IsBelow q table other
 
--- The lower and upper bounds are near the r-step values. The lower table is nowhere below r down steps. The upper table
--- is nowhere above the unit less r down steps of the swapped question.
+-- The lower table is near the r-step values and nowhere below r down steps. The upper table is near the values of not
+-- being lost after r steps, and nowhere above the unit less r down steps of the swapped question.
 pub record IsNarrow (q : Query) (zero : List Bool) (r : ℕ) (lower upper : ℕ → ℕ) : Type 0 where
   pub swept : IsBelow q (down_steps q r) lower
   pub near : IsCloseBelow q r lower
