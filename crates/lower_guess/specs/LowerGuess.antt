@@ -36,11 +36,11 @@ unfoldable pub raised_table : Query → List Bool → (ℕ → ℕ) → ℕ → 
 raised_table q marks base e zero s = first_raised q marks base e s
 raised_table q marks base e (suc j) s = lesser_step q (raised_table q marks base e j) s
 
--- No choices and ranks make these entries ranked.
+-- No choices and ranks prove a table of these entries.
 abbrev pub IsRefused : Query → (ℕ → ℕ) → Type 0
 IsRefused q entries = (table : List ℕ) → IsTable q entries table → ¬ CanBeRanked q table
 
--- No choices and ranks make any table of one excess ranked.
+-- No choices and ranks prove any table of one excess.
 abbrev pub AreRefused : Query → List Bool → (ℕ → ℕ) → ℕ → Type 0
 AreRefused q marks base e = (j : ℕ) → j ≤ most_steps → IsRefused q (raised_table q marks base e j)
 
@@ -59,7 +59,7 @@ pub record IsFirstGuess (q : Query) (marks : List Bool) (base : ℕ → ℕ) (ta
   pub here : IsFirstAt q marks base (excess place) table
   pub earlier : (i : ℕ) → i < place → AreRefused q marks base (excess i)
 
--- The first guess is found, with the plan that makes it ranked.
+-- The first guess is found, with the plan that proves it.
 pub record IsRaised (q : Query) (marks : List Bool) (base : List ℕ) (values : List ℕ) (choices : List (Option ℕ))
     (ranks : List ℕ) : Type 0 where
   pub first : IsFirstGuess q marks (slice_index base) values

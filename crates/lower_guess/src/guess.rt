@@ -18,7 +18,7 @@ use rank_certificate::laws::ranked_is_near;
 use rank_certificate::{RankPlan, find_ranks_over};
 use std::alloc::Global;
 
-/// This is a lower table in units, with the plan that makes it ranked.
+/// This is a lower table in units, with the plan that proves it.
 #[derive(Drop)]
 pub struct LowerGuess {
     /// Each state has a lower bound.

@@ -1,4 +1,4 @@
-//! A plan of choices and ranks makes values ranked.
+//! This module finds the plan of choices and ranks that proves values.
 
 ghost use Rattle.std.specs.Prelude.{◌≡◌, ℕ, ◌<◌, ◌≤◌, ◌↔◌, length, slice_index, slice_index_or, All, Some, None, IfOk, IfSome, IsTrue, MatchOption, option_copied};
 ghost use Rattle.game_model.specs.Query.{states};
@@ -27,11 +27,11 @@ pub struct RankPlan {
     pub ranks: Vec<u32>,
 }
 
-/// Returns the plan that makes values in units ranked ([`crate::check_ranks`]), with the least ranks. It returns none
-/// exactly if no choices and ranks make them ranked. A rank is 0 at goals, dead states and states of value 0. Elsewhere
-/// it is the least number from 1 up such that some choice of the maximiser, or every choice of the minimiser, gives at
-/// least the value and has a successor of greater value, or one of equal value and smaller rank. The maximiser takes
-/// the first such choice there, and has none elsewhere.
+/// Returns the plan that proves values in units ([`crate::check_ranks`]), with the least ranks. It returns none exactly
+/// if no choices and ranks prove them. A rank is 0 at goals, dead states and states of value 0. Elsewhere it is the
+/// least number from 1 up such that some choice of the maximiser, or every choice of the minimiser, gives at least the
+/// value and has a successor of greater value, or one of equal value and smaller rank. The maximiser takes the first
+/// such choice there, and has none elsewhere.
 ///
 /// A state whose down step is below its value refuses the values at once. If there is no such state, the search goes
 /// backward from the states of rank 0: it looks at a state again only when a successor got a rank, or a large part of

@@ -18,7 +18,7 @@ use predecessors::Predecessors;
 use rank_certificate::{RankPlan, rank_table_over};
 use std::alloc::Global;
 
-/// A lower table comes with the plan that makes it ranked.
+/// A lower table comes with the plan that proves it.
 #[derive(Drop)]
 pub struct Reached {
     /// This is the table.

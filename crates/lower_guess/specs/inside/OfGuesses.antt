@@ -38,7 +38,7 @@ IsSumOf g steps choice sum = IsSumBetween choice.edges (entry_of g steps) (entry
 abbrev pub IsTableOf : Guesses → ℕ → List ℕ → Type 0
 IsTableOf g steps table = IsTable g.question.now (entry_of g steps) table
 
--- No choices and ranks make the table after this many steps down ranked.
+-- No choices and ranks prove the table after this many steps down.
 abbrev pub IsRefusedOf : Guesses → ℕ → Type 0
 IsRefusedOf g steps = IsRefused g.question.now (entry_of g steps)
 
