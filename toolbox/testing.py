@@ -18,6 +18,8 @@ from toolbox.programs import BUILT, ROOT, program, run
 
 TOOLS, EXAMPLES, MODELS = ROOT / "tools", ROOT / "examples", ROOT / "gallery" / "models"
 SAMPLES = TOOLS / "samples"
+# what the trials draw and damage serves tests, too
+sys.path.append(str(ROOT / "gallery" / "trials"))
 ROUNDS = "300"
 
 has_program = os.access(os.environ.get("STOGAME") or BUILT, os.X_OK)
@@ -58,6 +60,11 @@ class InFolder(unittest.TestCase):
         folder = tempfile.TemporaryDirectory()
         self.addCleanup(folder.cleanup)
         self.folder = Path(folder.name)
+
+    def start(self, patch):
+        """Patches something until the test ends."""
+        patch.start()
+        self.addCleanup(patch.stop)
 
     def write(self, name, text):
         path = self.folder / name

@@ -41,7 +41,7 @@ def compare(found, room, texts, command="check", plan=False):
     for name, text in texts.items():
         (room / f"m.{name}").write_bytes(text.encode("latin-1"))
     rest = ["m.certificate"] if command == "audit" else ["--rounds", ROUNDS, "--workers", 1, *["--plan"] * plan]
-    words = words_of(command, texts["formula"].encode("latin-1").decode("utf-8"), *rest)
+    words = words_of(command, spoken(texts["formula"]), *rest)
     status, output = expected(texts, command, plan, room)
     ran = run(room, *words)
     found.counts[" ".join(output.split()[:2]) if output and status > 2 else "answers" if output else "large ones"] += 1
@@ -77,8 +77,8 @@ def files_of(texts):
     return read_files(texts["tra"], texts["lab"], texts["own"])
 
 
-def damaged(draw, text, is_formula):
-    """The text with another byte, another field or another line, or cut off."""
+def damaged(draw, text, is_formula, fields=FIELDS):
+    """The text with another byte, another field, of these, or another line, or cut off."""
     place, kind = draw.randrange(len(text) + 1), draw.random()
     if kind < 0.4:
         byte = draw.choice(BYTES)
@@ -88,7 +88,7 @@ def damaged(draw, text, is_formula):
     else:
         mark = "\n" if kind > 0.8 else " "
         parts = text.split(mark)
-        changed = mark.join(changed_parts(draw, parts, mark))
+        changed = mark.join(changed_parts(draw, parts, mark, fields))
     return as_word(changed) if is_formula else changed
 
 
@@ -97,11 +97,16 @@ def as_word(text):
     return ("" if text[:1] != "-" else " ") + text.replace("\0", "@").encode("utf-8").decode("latin-1")
 
 
-def changed_parts(draw, parts, mark):
+def spoken(formula):
+    """The word of a command line whose bytes are the characters of this text."""
+    return formula.encode("latin-1").decode("utf-8")
+
+
+def changed_parts(draw, parts, mark, fields):
     """Fields or lines of which one is another, is gone, or stands twice or elsewhere."""
     place, kind = draw.randrange(len(parts)), draw.random()
     if kind < 0.5:
-        other = draw.choice(FIELDS) if mark == " " else draw.choice(("", " ", "x", draw.choice(parts)))
+        other = draw.choice(fields) if mark == " " else draw.choice(("", " ", "x", draw.choice(parts)))
         return [*parts[:place], other, *parts[place + 1 :]]
     if kind < 0.65:
         return parts[:place] + parts[place + 1 :]

@@ -10,6 +10,7 @@ GAME = "2 2 3\n0 0 0 1/2\n0 0 1 1/2\n1 0 1 1\n"
 LABELS = '0="init" 1="one"\n0: 0\n1: 1\n'
 OWNERS = '0="a" 1="b"\n1: 1\n'
 FORMULA = 'Pmax=? [ F "one" ]'
+TEXTS = {"tra": GAME, "lab": LABELS, "own": OWNERS, "formula": FORMULA}
 COUNT = 1
 
 
@@ -63,7 +64,10 @@ def formulas():
         yield f'Pmax=? [ F {"!(" * (open_ones // 2)}{"!" * (open_ones % 2)}"one"{")" * (open_ones // 2)} ]'
     for steps in (1_000_000, 1_000_001, 10**30):
         yield f'Pmax=? [ F<={steps} "one" ]'
+    yield "Pmax=? [ F " + '"one" & ' * 400 + '"one" ]'
     for limit in ("1", "1.0000", "1.00001", "2", "3", "1/1", "0" * 30, "0" * 31, "1e-23", "1e-24", "1/0"):
+        yield f'P>={limit} [ F "one" ]'
+    for limit in ("0.6" + "0" * 28, "0.6" + "0" * 29, "6e-01", "6e-0001", "0e-99", "0e-100", "00/1", "0/0"):
         yield f'P>={limit} [ F "one" ]'
     for many in (255, 256):
         yield f'Pmax=? [ F "{"x" * many}" ]'
@@ -74,5 +78,5 @@ def trial(_, room):
     """All rows, each asked of `check`."""
     found = Found()
     for name, text in rows():
-        compare(found, room, {"tra": GAME, "lab": LABELS, "own": OWNERS, "formula": FORMULA, name: text})
+        compare(found, room, {**TEXTS, name: text})
     return found
