@@ -59,14 +59,19 @@ def second_here(question, *certificate):
     return programs.Ended(*call(*question[:3], *certificate, *question[3:]))
 
 
-@needs_program
-class Dossiers(InFolder):
+class Judged(InFolder):
+    """Tests of dossiers, for which the second audit runs in this process."""
+
     def setUp(self):
         super().setUp()
         os.environ["STOGAME"] = str(program())
-        here = mock.patch.object(evidence, "second_of", second_here)
-        here.start()
-        self.addCleanup(here.stop)
+        self.start(mock.patch.object(evidence, "second_of", second_here))
+
+
+@needs_program
+class Dossiers(Judged):
+    def setUp(self):
+        super().setUp()
         for ending in ("tra", "lab", "own"):
             shutil.copy(EXAMPLES / f"two_players.{ending}", self.folder)
         self.files = [str(self.folder / f"two_players.{ending}") for ending in ("tra", "lab", "own")]

@@ -11,9 +11,11 @@ import sys
 import unittest
 from unittest import mock
 
-from tools.test_dossier import second_here
+from tools.test_dossier import Judged
 from toolbox import evidence, programs
-from toolbox.testing import EXAMPLES, MODELS, TOOLS, InFolder, call_tool, load, needs_program, program, run
+from toolbox.testing import EXAMPLES, MODELS, TOOLS, call_tool, load, needs_program, program, run
+
+from core import ALL_PATHS, drawn_formula, drawn_game
 
 GAME = [str(EXAMPLES / f"two_players.{ending}") for ending in ("tra", "lab", "own")]
 OWN = ["--own", GAME[2]]
@@ -60,37 +62,11 @@ class TakenApart(unittest.TestCase):
         self.assertEqual(evidence.label_text(marks), '0="init" 1="a"\n0: 0\n1: 0\n2: 0 1\n')
 
 
-def drawn_formula(draw, depth, is_inside=False):
-    """A formula with so many others one in another at most, over the game of two players."""
-    coalition = draw.choice(("", "", "<<p1>> ", "<<p2>> ", "<<p1,p2>> ", "<<>> "))
-    threshold = f"P{draw.choice(('>=', '>', '<=', '<'))}{draw.choice(('0', '0.2', '1/3', '0.65', '0.9', '1'))}"
-    bound = threshold if is_inside or draw.random() < 0.7 else draw.choice(("Pmax=?", "Pmin=?"))
-    left, right = drawn_side(draw, depth), drawn_side(draw, depth)
-    steps = draw.choice(("", "", "<=0", "<=1", "<=3"))
-    path = draw.choice((f"F{steps} {right}", f"{left} U{steps} {right}", f"G {right}", f"X {right}"))
-    return f"{coalition}{bound} [ {path} ]"
-
-
-def drawn_side(draw, depth):
-    """A side of a path, which has a formula inside in most cases where it may have one."""
-    if depth and draw.random() < 0.7:
-        inside = drawn_formula(draw, depth - 1, True)
-        return draw.choice((inside, f"!{inside}", f'("goal" | {inside})', f'({inside} & !"init")'))
-    return draw.choice(('"goal"', '"init"', '!"goal"', "true", '("init" | "goal")'))
-
-
 @needs_program
-class Evidence(InFolder):
+class Evidence(Judged):
     def setUp(self):
         super().setUp()
-        os.environ["STOGAME"] = str(program())
-        for module, name, instead in (
-            (evidence, "second_of", second_here),
-            (load("dossier"), "provenance", lambda: ["sources unknown", "kit unknown"]),
-        ):
-            patch = mock.patch.object(module, name, instead)
-            patch.start()
-            self.addCleanup(patch.stop)
+        self.start(mock.patch.object(load("dossier"), "provenance", lambda: ["sources unknown", "kit unknown"]))
 
     def dossier(self, *words):
         """The text of a dossier, which verifies."""
@@ -172,7 +148,10 @@ class Evidence(InFolder):
         """Steps come to what the program says by itself, or stop where a state stays undecided."""
         draw, statuses = random.Random(3), []
         for _ in range(DRAWN):
-            words = [*GAME[:2], drawn_formula(draw, 2), *OWN]
+            model, formula = drawn_game(draw, all_initial=False), drawn_formula(draw, ALL_PATHS, 2).formula()
+            model.write(self.folder / "m")
+            tra, lab, own = (str(self.folder / f"m.{ending}") for ending in ("tra", "lab", "own"))
+            words = [tra, lab, formula, "--own", own]
             with self.subTest(formula=words[2]):
                 status, text, errors = call_tool("dossier", *words)
                 self.assertIn(status, (0, 2), errors)
