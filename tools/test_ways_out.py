@@ -264,7 +264,9 @@ class Small(InFolder):
     def test_help_and_closed_pipes(self):
         for tool in COMMANDS:
             with self.subTest(tool=tool):
-                self.assertEqual(run_tool(tool, "--help")[0], 0)
+                status, output, errors = run_tool(tool, "--help")
+                self.assertEqual((status, errors), (0, ""))
+                self.assertIn(f"\n    {tool} ", output)
                 said = f"{tool}: unrecognized arguments: --other; {tool} --help says more\n"
                 status, output, errors = run_tool(tool, *["x"] * COMMANDS[tool], "--other")
                 self.assertEqual((status, output), (3, ""))
