@@ -22,6 +22,16 @@ SAMPLES = TOOLS / "samples"
 sys.path.append(str(ROOT / "gallery" / "trials"))
 ROUNDS = "300"
 
+# the game of two players, what is mostly asked of it, and the certificate of that
+GAME = [str(EXAMPLES / f"two_players.{ending}") for ending in ("tra", "lab", "own")]
+FORMULA = '<<p1>> P>=0.6 [ F "goal" ]'
+CERTIFICATE = """certificate 2 4
+0 0.650000000000000 1 1 0.650000000000000 -
+1 0.200000000000000 - 1 0.200000000000000 1
+2 1.000000000000000 - 0 1.000000000000000 -
+3 0.000000000000000 - 0 0.000000000000000 -
+"""
+
 has_program = os.access(os.environ.get("STOGAME") or BUILT, os.X_OK)
 needs_program = unittest.skipUnless(has_program, "no built program: build it, or name one by STOGAME")
 

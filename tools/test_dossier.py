@@ -10,9 +10,7 @@ from unittest import mock
 from tools.test_reaudit import call
 from toolbox import evidence, programs
 from toolbox.formulas import Reader
-from toolbox.testing import EXAMPLES, TOOLS, InFolder, call_tool, load, needs_program, program, run
-
-FORMULA = '<<p1>> P>=0.6 [ F "goal" ]'
+from toolbox.testing import FORMULA, GAME, TOOLS, InFolder, call_tool, load, needs_program, program, run
 
 # a formula and its sentence
 SENTENCES = [
@@ -72,9 +70,7 @@ class Judged(InFolder):
 class Dossiers(Judged):
     def setUp(self):
         super().setUp()
-        for ending in ("tra", "lab", "own"):
-            shutil.copy(EXAMPLES / f"two_players.{ending}", self.folder)
-        self.files = [str(self.folder / f"two_players.{ending}") for ending in ("tra", "lab", "own")]
+        self.files = [shutil.copy(name, self.folder) for name in GAME]
         self.words = [*self.files[:2], FORMULA, "--own", self.files[2]]
         self.text = call_tool("dossier", *self.words)[1]
         self.name = str(self.write("dossier", self.text))

@@ -13,11 +13,10 @@ from unittest import mock
 
 from tools.test_dossier import Judged
 from toolbox import evidence, programs
-from toolbox.testing import EXAMPLES, MODELS, TOOLS, call_tool, load, needs_program, program, run
+from toolbox.testing import GAME, MODELS, TOOLS, call_tool, load, needs_program, program, run
 
 from core import ALL_PATHS, drawn_formula, drawn_game
 
-GAME = [str(EXAMPLES / f"two_players.{ending}") for ending in ("tra", "lab", "own")]
 OWN = ["--own", GAME[2]]
 COIN = [str(MODELS / f"coin-2-2.{ending}") for ending in ("tra", "lab")]
 DIE = [str(MODELS / f"die-6.{ending}") for ending in ("tra", "lab")]

@@ -7,8 +7,8 @@ import sys
 from functools import lru_cache
 from unittest import mock
 
-from toolbox.testing import TOOLS, InFolder, call_tool, certified_models, certified_questions, load, needs_program
-from toolbox.testing import program, run, stepped_questions
+from toolbox.testing import CERTIFICATE, FORMULA, TOOLS, InFolder, call_tool, certified_models, certified_questions
+from toolbox.testing import load, needs_program, program, run, stepped_questions
 
 import core
 import limits
@@ -26,13 +26,7 @@ GAME = (
     '0="init" 1="goal"\n0: 0\n2: 1\n',
     '0="p1" 1="p2"\n1: 1\n',
 )
-FORMULA = '<<p1>> P>=0.6 [ F "goal" ]'
-ENTRIES = [
-    "0 0.650000000000000 1 1 0.650000000000000 -",
-    "1 0.200000000000000 - 1 0.200000000000000 1",
-    "2 1.000000000000000 - 0 1.000000000000000 -",
-    "3 0.000000000000000 - 0 0.000000000000000 -",
-]
+HEAD, *ENTRIES = CERTIFICATE.splitlines()
 
 # a formula, a line of the certificate and what stands there instead, and what is written
 WORKED = [
@@ -88,7 +82,7 @@ class Worked(InFolder):
         for formula, place, entry, line in WORKED:
             with self.subTest(formula=formula, entry=entry):
                 entries = [*ENTRIES[:place], entry, *ENTRIES[place + 1 :]]
-                self.write("certificate", "certificate 2 4\n" + "\n".join(entries) + "\n")
+                self.write("certificate", "\n".join([HEAD, *entries, ""]))
                 _, output, errors = call(*self.words(formula))
                 self.assertEqual((output, errors), (line + "\n", ""))
 
@@ -132,7 +126,7 @@ class Worked(InFolder):
                 self.assertEqual(call(*words)[1], line + "\n")
 
     def test_faults_name_file_and_line(self):
-        self.write("certificate", "certificate 2 4\n" + "\n".join(ENTRIES) + "\n")
+        self.write("certificate", CERTIFICATE)
         words = self.words(FORMULA)
         for place, text, said in (
             (0, "4 6 9\n0 0 x 1\n", "line 2: 'x' is no whole number"),
@@ -169,7 +163,7 @@ class Worked(InFolder):
         for place in (0, 1, 3, 5):
             self.assertEqual(call(*words[:place], none, *words[place + 1 :]), (5, "", said))
         self.assertEqual(call(*words[:3], *words[4:])[:2], (3, ""))
-        self.write("certificate", "certificate 2 4\n" + "\n".join(ENTRIES) + "\n")
+        self.write("certificate", CERTIFICATE)
         command = " ".join(f"'{word}'" for word in (sys.executable, TOOLS / "reaudit", *words))
         for output, cause in (("> /dev/full", "no storage space"), (">&-", "bad file descriptor")):
             ended = run("bash", "-c", f"{command} {output}")

@@ -10,23 +10,16 @@ from fractions import Fraction
 from pathlib import Path
 
 from toolbox import explicit
-from toolbox.exact import Plain, exact_values
+from toolbox.exact import exact_values
 from toolbox.strategies import read_choice_names, read_strategy
-from toolbox.testing import EXAMPLES, SAMPLES, TOOLS, InFolder, call_tool, certified_models, needs_program, program
-from toolbox.testing import run, run_tool
+from toolbox.testing import CERTIFICATE, FORMULA, GAME, SAMPLES, TOOLS, InFolder, call_tool, certified_models
+from toolbox.testing import needs_program, program, run, run_tool
+
+from answers import read_files
 
 SCHEMA = TOOLS.parent / "docs" / "table.schema.json"
 NAMED = [str(SAMPLES / f"named_game.{ending}") for ending in ("tra", "sta")]
-GAME = [str(EXAMPLES / f"two_players.{ending}") for ending in ("lab", "own")]
-FORMULA = '<<p1>> P>=0.6 [ F "goal" ]'
-
-CERTIFICATE = """formula <<p1>> P>=3/5 [ F "goal" ]
-certificate 2 4
-0 0.650000000000000 1 1 0.650000000000000 -
-1 0.200000000000000 - 1 0.200000000000000 1
-2 1.000000000000000 - 0 1.000000000000000 -
-3 0.000000000000000 - 0 0.000000000000000 -
-"""
+SAID = f'formula <<p1>> P>=3/5 [ F "goal" ]\n{CERTIFICATE}'
 
 TABLE = """state,turn,over,owner,labels,lower,upper,mover,choice,action,rank
 0,1,false,p1,init,0.650000000000000,0.650000000000000,maximiser,1,throw,1
@@ -65,23 +58,23 @@ INDUCED = [
 REFUSED = [
     ("table", "nothing\n", [], "no line begins with 'certificate'"),
     ("table", "certificate 3 4\n", [], "line 1: 'certificate 3 4' is no 'certificate 2 N' and no 'certificate 1 N'"),
-    ("table", CERTIFICATE.replace("\n3 0", "\n4 0"), [],
+    ("table", SAID.replace("\n3 0", "\n4 0"), [],
      "line 6: no line of state 3: number, lower bound, choice, rank, upper bound, reply"),
-    ("table", CERTIFICATE.replace("0.650000000000000 1 1", "0.65 1 1"), [],
+    ("table", SAID.replace("0.650000000000000 1 1", "0.65 1 1"), [],
      "line 3: no line of state 0: number, lower bound, choice, rank, upper bound, reply"),
-    ("table", CERTIFICATE.replace("650000000000000 1 1", "650000000000000 16384 1"), [],
+    ("table", SAID.replace("650000000000000 1 1", "650000000000000 16384 1"), [],
      "line 3: a number of state 0 is above its limit"),
-    ("table", CERTIFICATE.replace(" 1 1 0.65", " 1 " + "9" * 5000 + " 0.65"), [],
+    ("table", SAID.replace(" 1 1 0.65", " 1 " + "9" * 5000 + " 0.65"), [],
      "line 3: a number of state 0 is above its limit"),
-    ("table", CERTIFICATE + "4\n", [], "line 7: more behind the line of the last state, 3"),
-    ("table", "\n".join(CERTIFICATE.split("\n")[:4]), [], "lines of 2 states; the first line states 4"),
-    ("table", CERTIFICATE.replace(" 1 1 0.65", " 2 1 0.65"), ["--tra", NAMED[0]],
+    ("table", SAID + "4\n", [], "line 7: more behind the line of the last state, 3"),
+    ("table", "\n".join(SAID.split("\n")[:4]), [], "lines of 2 states; the first line states 4"),
+    ("table", SAID.replace(" 1 1 0.65", " 2 1 0.65"), ["--tra", NAMED[0]],
      "line 3: state 0 has 2 choices, counted from 0, and no choice 2"),
-    ("table", CERTIFICATE.replace("000 1\n", "000 2\n"), ["--tra", NAMED[0]],
+    ("table", SAID.replace("000 1\n", "000 2\n"), ["--tra", NAMED[0]],
      "line 4: state 1 has 2 choices, counted from 0, and no choice 2"),
-    ("strategy", CERTIFICATE, ["--tra", NAMED[0], "--own", GAME[1], "--prism-actions"],
+    ("strategy", SAID, ["--tra", NAMED[0], "--own", GAME[2], "--prism-actions"],
      "both sides move; --side maximiser or --side minimiser says whose choices are meant"),
-    ("strategy", CERTIFICATE.replace("certificate 2 4", "certificate 2 3"), ["--tra", NAMED[0], "--prism-actions"],
+    ("strategy", SAID.replace("certificate 2 4", "certificate 2 3"), ["--tra", NAMED[0], "--prism-actions"],
      "line 6: more behind the line of the last state, 2"),
 ]
 
@@ -138,10 +131,10 @@ class Small(InFolder):
 
     def setUp(self):
         super().setUp()
-        self.cert = str(self.write("cert", CERTIFICATE))
+        self.cert = str(self.write("cert", SAID))
 
     def test_table_as_csv(self):
-        words = ["--tra", NAMED[0], "--sta", NAMED[1], "--lab", GAME[0], "--own", GAME[1]]
+        words = ["--tra", NAMED[0], "--sta", NAMED[1], "--lab", GAME[1], "--own", GAME[2]]
         self.assertEqual(call_tool("table", self.cert, *words, "--csv"), (0, TABLE, ""))
         plain = call_tool("table", self.cert, *words)[1].splitlines()
         self.assertEqual(
@@ -213,20 +206,20 @@ class Small(InFolder):
         for options, text in WRITTEN:
             with self.subTest(options=options):
                 self.assertEqual(
-                    call_tool("strategy", self.cert, "--tra", NAMED[0], "--own", GAME[1], *options), (0, text, "")
+                    call_tool("strategy", self.cert, "--tra", NAMED[0], "--own", GAME[2], *options), (0, text, "")
                 )
 
     def test_induced_models(self):
         for side, text in INDUCED:
             with self.subTest(side=side):
                 out = str(self.folder / side)
-                words = ["--tra", NAMED[0], "--lab", GAME[0], "--own", GAME[1], "--side", side, "--induced", out]
+                words = ["--tra", NAMED[0], "--lab", GAME[1], "--own", GAME[2], "--side", side, "--induced", out]
                 self.assertEqual(call_tool("strategy", self.cert, *words)[1], f"{out}.tra\n{out}.lab\n{out}.own\n")
                 written = self.written()
                 self.assertEqual(written[f"{side}.tra"], text)
                 self.assertEqual(
                     [written[f"{side}.{ending}"] for ending in ("lab", "own")],
-                    [Path(name).read_text() for name in GAME],
+                    [Path(name).read_text() for name in GAME[1:]],
                 )
 
     def test_the_model_is_not_written_over(self):
@@ -291,7 +284,7 @@ class Guarantees(InFolder):
     """What strategies for the game of two players guarantee: 0.65 by throwing, else what the other player leaves."""
 
     def ask(self, text, *more):
-        words = [NAMED[0], GAME[0], FORMULA, "--own", GAME[1], "--sta", NAMED[1]]
+        words = [NAMED[0], GAME[1], FORMULA, "--own", GAME[2], "--sta", NAMED[1]]
         return call_tool("guarantee", *words, "--strategy", self.write("mine", text), *more)
 
     def test_rows(self):
@@ -381,7 +374,7 @@ class OfTheGallery(InFolder):
                     _, output, _ = run(program(), "check", *words, "--workers", "1", "--rounds", "300")
                     self.within(one, output)
                     if one.states() <= 60:
-                        self.exactly_within(one, out)
+                        self.exactly_within(one, [*words[:2], *words[4:]])
 
     def within(self, one, output):
         """The printed bracket of the initial state has a number in common with the certificate's."""
@@ -389,9 +382,9 @@ class OfTheGallery(InFolder):
         lower, upper = (Fraction(one.entries[0][place]) for place in (1, 4))
         self.assertTrue(Fraction(fields[3]) <= upper and lower <= Fraction(fields[5]), output)
 
-    def exactly_within(self, one, out):
-        """The exact values of the induced model lie between the bounds at every state."""
-        values = exact_values(plain_model(out, one.model), one.question)
+    def exactly_within(self, one, names):
+        """The exact values of the induced model of these files lie between the bounds at every state."""
+        values = exact_values(read_files(*(Path(name).read_text() for name in names)).plain(), one.question)
         for state, value in enumerate(values):
             lower, upper = (Fraction(one.entries[state][place]) for place in (1, 4))
             self.assertTrue(lower <= value <= upper, (state, value))
@@ -422,14 +415,3 @@ def strategies_of(one):
         named = entry[2 if maximises else 5]
         sides["maximiser" if maximises else "minimiser"].append((state, 0 if named == "-" else int(named)))
     return {side: pairs for side, pairs in sides.items() if pairs}
-
-
-def plain_model(out, model):
-    """A model that was written, with the labels and the players of another, as exact values take it."""
-    made = explicit.read_transitions(f"{out}.tra")
-    choices = []
-    for state in range(made.states):
-        weighted = [(made.edges_of(choice), *made.weighted(choice)) for choice in made.choices_of(state)]
-        rows = [(zip(weights, map(made.successor.__getitem__, edges)), total) for edges, weights, total in weighted]
-        choices.append(rows)
-    return Plain(choices, model.labels, model.players, [model.players[owner] for owner in model.owners])
