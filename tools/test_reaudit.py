@@ -195,8 +195,8 @@ def judged(question, text, path):
         return ended.args[1] + "\n"
 
 
-# fields that Python might take for another one, or for a number, beside those of the trials
-ODD = (*FIELDS, "\xb2", "\x0b", "0x1", "0:1", "0:0 1", "0.5 jump", '3="a"b"', '3=""', '4="p 4"', '5="init"', "<<p3>>")
+# fields that code in Python might take for others
+ODD = ("\xb2", "\x0b", "0x1", "0:1", "0:0 1", "0.5 jump", '3="a"b"', '3=""', '4="p 4"', '5="init"', "<<p3>>")
 
 
 @needs_program
@@ -236,7 +236,7 @@ class Damaged(InFolder):
                     right["certificate"] = certificate_for(right)
                 texts = dict(right)
                 for _ in range(draw.choice((1, 1, 1, 2, 3))):
-                    texts[kind] = damaged(draw, texts[kind], kind == "formula", ODD)
+                    texts[kind] = damaged(draw, texts[kind], kind == "formula", draw.choice((FIELDS, ODD)))
                 with self.subTest(kind=kind, number=number, text=texts[kind]):
                     statuses.append(self.compare(texts))
             refused = sum(status in (4, 8) for status in statuses)
@@ -248,7 +248,7 @@ class Damaged(InFolder):
         draw, statuses = random.Random("steps"), []
         for number in range(DAMAGED):
             texts = {**drawn_texts(draw, True), "formula": core.drawn_formula(draw, core.STEPPED).formula()}
-            texts["formula"] = damaged(draw, texts["formula"], True, ODD)
+            texts["formula"] = damaged(draw, texts["formula"], True, draw.choice((FIELDS, ODD)))
             steps = re.search(r"(\bX\b|<=\s*[0-9]+\b(?![^[]*\[))", texts["formula"])
             if steps and not re.search("\0|P.*P", texts["formula"]):
                 with self.subTest(number=number, text=texts["formula"]):
@@ -288,6 +288,6 @@ class Alike(InFolder):
                 lines = [line.split() for line in few[place].text.splitlines()]
                 change(draw, draw.choice(lines[few[place].start + 1 :]))
                 text = "".join(f"{' '.join(fields)}\n" for fields in lines)
-                text = text if draw.random() < 0.85 else damaged(draw, text, False, ODD)
+                text = text if draw.random() < 0.85 else damaged(draw, text, False)
                 accepted += " audited " in self.compare(few[place], questions[place], text)
         self.assertTrue(CHANGED / 20 < accepted < CHANGED / 2, accepted)
