@@ -12,7 +12,7 @@ from toolbox import evidence, programs
 from toolbox.formulas import Reader
 from toolbox.testing import FORMULA, GAME, TOOLS, InFolder, call_tool, load, needs_program, program, run
 
-# a formula and its sentence
+# Each row has a formula and its sentence.
 SENTENCES = [
     ('Pmax=? [ F "goal" ]', 'What is the greatest probability, over all strategies, that at some time "goal" holds?'),
     ('Pmin=? [ G !"bad" ]',
@@ -47,18 +47,18 @@ class Sentences(unittest.TestCase):
 
 
 def hashed(text):
-    """A dossier whose second line has the hash of what follows."""
+    """Returns the dossier with the hash of what follows in its second line."""
     first, _, body = text.split("\n", 2)
     return f"{first}\n{load('dossier').second_line(body)}\n{body}"
 
 
 def second_here(question, *certificate):
-    """The run of the second audit, made in this process."""
+    """Runs the second audit in this process."""
     return programs.Ended(*call(*question[:3], *certificate, *question[3:]))
 
 
 class Judged(InFolder):
-    """Tests of dossiers, for which the second audit runs in this process."""
+    """For tests of dossiers the second audit runs in this process."""
 
     def setUp(self):
         super().setUp()
@@ -110,7 +110,7 @@ class Dossiers(Judged):
             self.assertEqual(dossier.program_file(), dossier.programs.BUILT)
 
     def test_the_logic_of_the_kit(self):
-        """It is compared where both are known; commit, state and the kit's name are recorded alone."""
+        """The logic is compared if both are known; commit, state and the kit's name are only recorded."""
         start = self.text.index("\nsources ")
         for filed, today, status, said in (
             ("kit 1 logic ab", "kit 2 logic ab", 0, "the kit's logic is the same"),

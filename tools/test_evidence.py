@@ -1,4 +1,4 @@
-"""Dossiers of formulas with a bound on the steps and of formulas with others inside.
+"""These dossiers are of formulas with a bound on the steps and of formulas with others inside.
 
 With EVERY_BYTE in the environment each byte of a dossier of steps is changed in turn, and a thousand bytes of one with
 a formula inside; else a few of each.
@@ -23,7 +23,7 @@ DIE = [str(MODELS / f"die-6.{ending}") for ending in ("tra", "lab")]
 RECOVERS = 'P>=1 [ G P>=1 [ F "finished" ] ]'
 FEW, MANY, MOST, DRAWN = 10, 1000, 3000, 20
 
-# a formula, and what it is taken apart into
+# Each row has a formula and what it is taken apart into.
 PARTS = [
     ('Pmax=? [ F "a" ]', ['Pmax=? [ F "a" ]']),
     ('P>=1 [ G P>=1 [ F "a" ] ]', ['P>=1 [ F "a" ]', 'P>=1 [ G "inside_1" ]']),
@@ -33,7 +33,7 @@ PARTS = [
      ['P>0 [ X "a[" ]', 'P>0 [ X "inside_1" & "b" ]', 'P>0 [ F "inside_2" ]']),
 ]
 
-# the words of a dossier, and the lines that its last step has by both
+# Each row has the words of a dossier, and the lines that both audits write in its last step.
 ANSWERED = [
     ([*GAME[:2], '<<p1>> P>=0.6 [ F<=1 "goal" ]', *OWN],
      ["state 0 lower 0.650000000000000 upper 0.650000000000000 steps 1 True"] * 2),
@@ -68,7 +68,7 @@ class Evidence(Judged):
         self.start(mock.patch.object(load("dossier"), "provenance", lambda: ["sources unknown", "kit unknown"]))
 
     def dossier(self, *words):
-        """The text of a dossier, which verifies."""
+        """Returns the text of a dossier, which has to verify."""
         status, text, errors = call_tool("dossier", *words)
         self.assertEqual((status, errors), (0, ""))
         name = self.write("dossier", text)
@@ -107,7 +107,7 @@ class Evidence(Judged):
             self.assertIn(": it is 'file labels_2 sha256 ", errors)
 
     def forged(self, text, piece, old, new):
-        """A dossier with a change in one of its files, and with hashes that fit."""
+        """Changes one of the files of a dossier, and makes the hashes fit."""
         dossier = load("dossier")
         held = dossier.pieces_filed(text.split("\n"))[piece]
         changed = held.replace(old, new, 1)
@@ -118,7 +118,7 @@ class Evidence(Judged):
         return f"{first}\n{dossier.second_line(body)}\n{body}"
 
     def test_a_forged_certificate(self):
-        """Of the formula inside another one it is judged at every state."""
+        """The certificate of a formula inside is judged at every state."""
         text = self.dossier(*COIN, RECOVERS)
         forged = self.forged(text, "certificate_1", "\n9 1.000000000000000", "\n9 0.900000000000000")
         name = self.write("forged", forged)

@@ -1,5 +1,5 @@
-"""The second audit: it says what `stogame audit` says of the gallery's certificates, of a thousand that were changed,
-and of models and formulas that were damaged; and of steps what `stogame check` says."""
+"""The second audit says what `stogame audit` says about the gallery's certificates, a thousand changed ones, and
+damaged models and formulas. About bounded steps it says what `stogame check` says."""
 
 import random
 import re
@@ -28,7 +28,7 @@ GAME = (
 )
 HEAD, *ENTRIES = CERTIFICATE.splitlines()
 
-# a formula, a line of the certificate and what stands there instead, and what is written
+# Each row has a formula, a line of the certificate, what replaces it, and what is written.
 WORKED = [
     (FORMULA, 0, ENTRIES[0], "state 0 lower 0.650000000000000 upper 0.650000000000000 reaudited True"),
     ('<<p1>> P>0.65 [ F "goal" ]', 0, ENTRIES[0],
@@ -52,7 +52,7 @@ WORKED = [
     (FORMULA, 3, "", "refused cert line 5 MissingLine"),
 ]
 
-# a formula with a bound on the steps, and what is written
+# Each row has a formula with a bound on the steps, and what is written.
 STEPPED = [
     ('<<p1>> P>=0.6 [ F<=1 "goal" ]', "state 0 lower 0.650000000000000 upper 0.650000000000000 steps 1 True"),
     ('<<p1>> P<0.6 [ F<=1 "goal" ]', "state 0 lower 0.000000000000000 upper 0.000000000000000 steps 1 True"),
@@ -72,7 +72,7 @@ def call(*words):
 
 
 class Worked(InFolder):
-    """Worked by hand over the game of two players."""
+    """These rows about the game of two players were worked out by hand."""
 
     def words(self, formula):
         names = [str(self.write(name, text)) for name, text in zip(("m.tra", "m.lab", "m.own"), GAME)]
@@ -179,13 +179,13 @@ class Worked(InFolder):
 
 
 def question_of(one):
-    """A question as the second audit reads it; a game is read once for all that is asked of it."""
+    """Reads a question as the second audit does; each game is read only once."""
     with mock.patch.object(reaudit, "read_game", read_game):
         return reaudit.Question(*one.words[:3], one.words[4] if len(one.words) > 3 else None)
 
 
 def judged(question, text, path):
-    """What the second audit writes of a certificate for a question that was read."""
+    """Returns what the second audit writes about a certificate for a question that was read."""
     path.write_text(text, encoding="latin-1")
     try:
         entries = reaudit.entries_of(str(path), len(question.game))
@@ -195,7 +195,7 @@ def judged(question, text, path):
         return ended.args[1] + "\n"
 
 
-# fields that code in Python might take for others
+# Code in Python might take these fields for others.
 ODD = ("\xb2", "\x0b", "0x1", "0:1", "0:0 1", "0.5 jump", '3="a"b"', '3=""', '4="p 4"', '5="init"', "<<p3>>")
 
 
@@ -204,7 +204,7 @@ class Damaged(InFolder):
     """The program and the second audit refuse the same damaged texts, and write the same of the others."""
 
     def compare(self, texts):
-        """Asks both, about steps where there is no certificate, and gives the status."""
+        """Asks both, about steps if there is no certificate, and returns the status."""
         names = {one: str(self.folder / one) for one in texts}
         for one, name in names.items():
             (self.folder / one).write_bytes(texts[one].encode("latin-1"))
@@ -221,7 +221,7 @@ class Damaged(InFolder):
         return status
 
     def test_limits(self):
-        """Texts at a limit and one beyond it; of another model the certificate may be refused, too."""
+        """Both agree at each limit and just beyond it. If the model is another one, its certificate may be refused."""
         certificate = certificate_for(limits.TEXTS)
         for kind, text in limits.rows():
             with self.subTest(kind=kind, text=text[:200]):
@@ -244,7 +244,7 @@ class Damaged(InFolder):
                 self.assertTrue(DAMAGED / 4 < refused < DAMAGED, refused)
 
     def test_steps(self):
-        """Of damaged formulas that still have a bound on the steps both write the same lines."""
+        """Both write the same lines about damaged formulas that still have a bound on the steps."""
         draw, statuses = random.Random("steps"), []
         for number in range(DAMAGED):
             texts = {**drawn_texts(draw, True), "formula": core.drawn_formula(draw, core.STEPPED).formula()}
@@ -258,7 +258,7 @@ class Damaged(InFolder):
 
 @needs_program
 class Alike(InFolder):
-    """The program and the second audit write the same, but for the word for it."""
+    """The program and the second audit write the same, but for `audited` and `reaudited`."""
 
     def compare(self, one, question, text):
         mine = judged(question, text, self.folder / "certificate")

@@ -1,4 +1,4 @@
-"""Texts that are damaged: of each kind the line and the cause that docs/FORMATS.md gives, or what the text then means.
+"""Damaged texts are refused with the line and the cause that docs/FORMATS.md gives, or mean what they then say.
 
 Files, a formula or a certificate in drawn spellings are changed in a byte, a field or a line, or not at all. They are
 read apart from the program, and what it has to write is worked out: a refusal, or the answer.
@@ -24,7 +24,7 @@ FIELDS = (
 
 
 def trial(draw, room):
-    """One set of texts, asked of `check` or of `audit`."""
+    """Asks `check` or `audit` about one set of texts."""
     command, plan = draw.choice((("check", False), ("check", True), ("audit", False)))
     found, texts = Found(), drawn_texts(draw, command == "check" and not plan)
     if command == "audit":
@@ -50,7 +50,7 @@ def compare(found, room, texts, command="check", plan=False):
 
 
 def drawn_texts(draw, any_path):
-    """Files of a game and a formula, mostly one that has a certificate if not any may stand there."""
+    """Draws the files of a game and a formula. Unless any path is allowed, the formula mostly has a certificate."""
     model, any_path = drawn_game(draw, 2, 5, draw.random() < 0.5), any_path or draw.random() < 0.1
     paths, depth = (ALL_PATHS, draw.choice((0, 1, 2))) if any_path else ((*ENDLESS, "G"), 0)
     formula = drawn_formula(draw, paths, depth).formula()
@@ -66,7 +66,7 @@ def drawn_texts(draw, any_path):
 
 
 def certificate_for(texts):
-    """What `check --plan` writes of these texts, or a text that is no certificate where the formula has none."""
+    """Returns what `check --plan` writes about these texts, or an empty certificate if the formula can have none."""
     try:
         return checked(files_of(texts), texts["formula"], ROUNDS, True)[1]
     except Refusal:
@@ -78,7 +78,7 @@ def files_of(texts):
 
 
 def damaged(draw, text, is_formula, fields=FIELDS):
-    """The text with another byte, another field, of these, or another line, or cut off."""
+    """Returns the text cut off, or with another byte, another line, or one of these fields in place of another."""
     place, kind = draw.randrange(len(text) + 1), draw.random()
     if kind < 0.4:
         byte = draw.choice(BYTES)
@@ -93,17 +93,17 @@ def damaged(draw, text, is_formula, fields=FIELDS):
 
 
 def as_word(text):
-    """A text that can be a word of a command line, and is no option."""
+    """Returns a text that can be a word of a command line and is no option."""
     return ("" if text[:1] != "-" else " ") + text.replace("\0", "@").encode("utf-8").decode("latin-1")
 
 
 def spoken(formula):
-    """The word of a command line whose bytes are the characters of this text."""
+    """Returns the word of a command line whose bytes are the characters of this text."""
     return formula.encode("latin-1").decode("utf-8")
 
 
 def changed_parts(draw, parts, mark, fields):
-    """Fields or lines of which one is another, is gone, or stands twice or elsewhere."""
+    """Changes, removes, repeats or moves one of the fields or lines."""
     place, kind = draw.randrange(len(parts)), draw.random()
     if kind < 0.5:
         other = draw.choice(fields) if mark == " " else draw.choice(("", " ", "x", draw.choice(parts)))
@@ -114,7 +114,7 @@ def changed_parts(draw, parts, mark, fields):
 
 
 def expected(texts, command, plan, room):
-    """The status and the output; there is none where the answer is not worked out: of a large game, or many steps."""
+    """Returns the status and the output, which is empty if the game is too large or the steps are too many to try."""
     try:
         files = files_of(texts)
         if command == "audit":
