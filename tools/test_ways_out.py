@@ -1,4 +1,4 @@
-"""Tables and strategies of certificates, and strategies of one's own: read back, compared with the certificate, and
+"""Tables and strategies of certificates are read back and compared with the certificate; strategies of one's own are
 valued."""
 
 import csv
@@ -28,13 +28,13 @@ TABLE = """state,turn,over,owner,labels,lower,upper,mover,choice,action,rank
 3,2,true,p1,,0.000000000000000,0.000000000000000,maximiser,,,0
 """
 
-# the commands, each with as many words as it takes
+# These are the commands, each with the number of words that it takes.
 COMMANDS = {
     "table": 1, "strategy": 1, "guarantee": 3, "properties": 3, "dossier": 3, "reaudit": 4,
     "respell": 1, "owners": 2, "from_drn": 2, "measure": 0, "refuse_memory": 0,
 }
 
-# options behind the certificate, and what they write of the strategy
+# Each row has options behind the certificate, and what they write about the strategy.
 WRITTEN = [
     (["--side", "maximiser", "--prism-actions"], "0:throw\n2:0\n3:0\n"),
     (["--side", "minimiser", "--prism-actions"], "1:right\n"),
@@ -45,7 +45,7 @@ WRITTEN = [
      '[\n    {"c": [{"index": 3, "prob": 1, "labels": ["right"]}], "s": {"turn": 2, "over": false}}\n]\n'),
 ]
 
-# an owner file, the side, and the transitions that are left of the game
+# Each row has a side, and the transitions of the game that are left.
 INDUCED = [
     ("maximiser",
      "4 5 8\n0 0 2 0.65 throw\n0 0 3 0.35 throw\n1 0 2 0.5 left\n1 0 3 0.5 left\n1 1 2 0.2 right\n1 1 3 0.8 right\n"
@@ -54,7 +54,7 @@ INDUCED = [
      "4 5 7\n0 0 1 1 pass\n0 1 2 0.65 throw\n0 1 3 0.35 throw\n1 0 2 0.2 right\n1 0 3 0.8 right\n2 0 2 1\n3 0 3 1\n"),
 ]
 
-# a certificate's text, the words of a tool, and its one line
+# Each row has a tool, the text of a certificate, further words, and the one line that the tool writes.
 REFUSED = [
     ("table", "nothing\n", [], "no line begins with 'certificate'"),
     ("table", "certificate 3 4\n", [], "line 1: 'certificate 3 4' is no 'certificate 2 N' and no 'certificate 1 N'"),
@@ -78,11 +78,11 @@ REFUSED = [
      "line 6: more behind the line of the last state, 2"),
 ]
 
-# what is said of a strategy, by side
+# These lines are said about a strategy of either side.
 MOST = "state 0 maximiser guarantees at least {0} and no more than {0} audited {1}\n"
 LEAST = "state 0 minimiser guarantees at most {0} and no less than {0} audited {1}\n"
 
-# a strategy, and what is said of it
+# Each row has a strategy, the status, and what is said about it.
 GUARANTEED = [
     ("0:throw\n", 0, MOST.format("0.650000000000000", "True")),
     ("0=1\n", 0, MOST.format("0.650000000000000", "True")),
@@ -92,7 +92,7 @@ GUARANTEED = [
     ('[{"s": 0, "c": [{"index": 0, "prob": 1}]}]', 1, MOST.format("0.200000000000000", "False")),
 ]
 
-# a strategy that is refused, and why
+# Each row has a strategy that is refused, and why.
 NO_STRATEGY = [
     ("0:2\n", "line 1: state 0 has 2 choices, counted from 0, and no choice 2"),
     ("0:jump\n", "line 1: state 0 has no choice of the name jump"),
@@ -109,7 +109,7 @@ NO_STRATEGY = [
 
 
 def fits(schema, value):
-    """Whether a value is of a schema of the few kinds that the table's has."""
+    """Says whether a value fits a schema, which may be of the few kinds that the table's has."""
     kinds = {"object": dict, "array": list, "string": str, "integer": int, "boolean": bool, "null": type(None)}
     kind = schema.get("type", [])
     if not any(isinstance(value, kinds[one]) for one in ([kind] if isinstance(kind, str) else kind)):
@@ -391,7 +391,7 @@ class OfTheGallery(InFolder):
 
 
 def as_csv(row):
-    """A row of the JSON as CSV has it."""
+    """Returns a row of the JSON as CSV has it."""
     return {
         name: " ".join(value) if isinstance(value, list) else "" if value is None else str(value)
         for name, value in row.items()
@@ -399,7 +399,7 @@ def as_csv(row):
 
 
 def entry_of(row):
-    """The fields of a certificate's line that a row of the table was made of."""
+    """Returns the fields of the line of a certificate from which a row of the table was made."""
     move = row["choice"] or "-"
     choice, reply = ("-", move) if row["mover"] == "minimiser" else (move, "-")
     return [row["state"], row["lower"], choice, row["rank"], row["upper"], reply]
