@@ -1,4 +1,4 @@
-//! The inner set, which grows in the outer one.
+//! This module grows the inner set inside the outer one.
 
 ghost use Rattle.std.specs.Prelude.{◌≡◌, length, IfOk};
 ghost use Rattle.game_model.specs.Query.{states};
@@ -12,7 +12,7 @@ use game_outside::OutOfMemory;
 use predecessors::{ChoiceFlags, Predecessors};
 use std::alloc::Global;
 
-/// Bars the states that are gone, and the choices that lead to one.
+/// This bars the states that are gone, and the choices that lead to one.
 #[derive(Drop)]
 struct BarsGone<'a> {
     gone: &'a [bool],
@@ -33,7 +33,8 @@ impl Bars for BarsGone<'_> {
     }
 }
 
-/// The inner set where these states are gone: it grows backward from the goals, by choices that stay in the outer set.
+/// Returns the inner set when these states are gone: it grows backward from the goals, by choices that stay in the
+/// outer set.
 pub fn inner_set(
     alloc: Global,
     question: &Question,
@@ -48,7 +49,7 @@ pub fn inner_set(
     attractor_of(alloc, question, predecessors, &BarsGone { gone, leaving })
 }
 
-/// For each choice whether some successor is among these states.
+/// Says for each choice whether some successor is among these states.
 fn leaving_choices(
     alloc: Global,
     question: &Question,

@@ -1,4 +1,4 @@
--- The problem that texts and words ask, as a relation.
+-- This module says which problem texts and words ask, as a relation.
 use Rattle.std.specs.Prelude.{◌≡◌, ◌≤◌, ℕ, true, List, length, Option, Some, None}
 use Rattle.text_lines.specs.Limits.{most_bytes}
 use Rattle.game_model.specs.Game.{Distribution}
@@ -14,20 +14,20 @@ use Rattle.asked_files.specs.Problems.{Problem, PosesProblem, takes_formula}
 use Rattle.asked_files.specs.Sources.{Sources}
 use Rattle.asked_files.specs.Texts.{single_owner}
 
--- there is a text, within the limit, and this is true of it
+-- There is a text within the limit, and this is true of it.
 pub record GivenTextWith (source : Option (List ℕ)) (IsSo : List ℕ → Type 0) : Type 0 where
   pub text : List ℕ
   pub given : source ≡ Some text
   pub short : length text ≤ most_bytes
   pub is_so : IsSo text
 
--- where no owner file is named, one player owns all states; else these are the owners that its text denotes
+-- If no owner file is named, one player owns all states. Else these are the owners that its text denotes.
 abbrev pub AreOwners : Option (List ℕ) → Option (List ℕ) → ℕ → Ownership → Type 0
 AreOwners None source states owners = owners ≡ single_owner states
 AreOwners (Some name) source states owners = GivenTextWith source (λ text. DenotesOwners text states owners)
 
--- The transition text denotes a game, the label text labels of its states, and the owner text owners of them; the
--- formula poses the problem of these, and the command takes it.
+-- The transition text denotes a game, the label text denotes labels of its states, and the owner text denotes owners of
+-- them. The formula poses the problem of these, and the command takes it.
 pub record Asks (paths : Paths) (sources : Sources) (asked : Asked) (problem : Problem) : Type 0 where
   pub game : List (List Distribution)
   pub labels : Labelling

@@ -1,4 +1,4 @@
--- What loading answers, of the texts that it reads.
+-- This module says what loading answers for the texts that it reads.
 use Rattle.std.specs.Prelude.{◌≡◌, ◌<◌, ◌≤◌, ◌+◌, ◌⊎◌, ℕ, Bool, true, List, Option, Result, Ok, Err, IsErrOf}
 use Rattle.text_lines.specs.Limits.{most_bytes}
 use Rattle.game_outside.specs.Limits.{piece_size}
@@ -15,22 +15,22 @@ use Rattle.asked_files.specs.declared.load.End.TheVariants.{OutOfMemory, ReadFau
 use Rattle.asked_files.specs.Said.{Said, NotHeld, Refuses, Denoted}
 use Rattle.asked_files.specs.Sources.{IfKnown}
 
--- how loading ends where a formula poses no question
+-- This is how loading ends if a formula poses no question.
 abbrev pub end_of_question : PoseFault → End
 end_of_question pose.OutOfMemory = OutOfMemory
 end_of_question (pose.UnknownLabel name) = Refused (OfQuestion (pose.UnknownLabel name))
 end_of_question (pose.UnknownPlayer name) = Refused (OfQuestion (pose.UnknownPlayer name))
 end_of_question pose.NoInit = Refused (OfQuestion pose.NoInit)
 
--- the answer is what is said, or memory was wanting
+-- The answer is what is said, or memory ran out.
 abbrev pub Loads : {X Y : Type 0} → (X → Y) → Result X End → Said Y → Type 0
 Loads view (Ok x) said = said ≡ Denoted (view x)
 Loads view (Err OutOfMemory) said = Unit {0}
 Loads view (Err ReadFault) said = said ≡ NotHeld
 Loads view (Err (Refused refusal)) said = said ≡ Refuses refusal
 
--- The answer is what is said of a source. It is the one that is held at the place, where this is told, unless it can't
--- be read; on a steady shelf it always is.
+-- The answer is what is said of a source. If the holding is known, the source is the one that is held at the place,
+-- unless it can't be read. On a steady shelf it always is.
 pub record LoadsText {X Y : Type 0} (holding : Option Holding) (steady : Bool) (place : Holding → Option (List ℕ))
     (view : X → Y) (result : Result X End) (said : Option (List ℕ) → Said Y) : Type 0 where
   pub source : Option (List ℕ)
@@ -38,39 +38,41 @@ pub record LoadsText {X Y : Type 0} (holding : Option Holding) (steady : Bool) (
   pub steadily : steady ≡ true → IfKnown holding (λ held. source ≡ place held)
   pub loads : Loads view result (said source)
 
--- loading refuses nothing for want of memory
+-- Loading refuses nothing because memory ran out.
 abbrev pub EndsCaused : {X : Type 0} → Result X End → Type 0
 EndsCaused (Ok x) = Unit {0}
 EndsCaused (Err OutOfMemory) = Unit {0}
 EndsCaused (Err ReadFault) = Unit {0}
 EndsCaused (Err (Refused refusal)) = IsCaused refusal
 
--- a text was too long
+-- A text was too long.
 abbrev pub IsTooLong : {X : Type 0} → Result X End → Type 0
 IsTooLong {X} result = (text : Text) × (result ≡ Err (Refused (TooLong text)))
 
--- what asks nothing of a shelf: it has no fault of reading, refuses nothing for want of memory, and nothing as too long
+-- A call that asks nothing of a shelf has no fault of reading, and refuses nothing because memory ran out and nothing
+-- as too long.
 pub record ReadsNothing {X : Type 0} (result : Result X End) : Type 0 where
   pub read : IsErrOf result ReadFault → ⊥
   pub caused : EndsCaused result
   pub short : IsTooLong result → ⊥
 
--- how much is taken of the last text that loading reads: it is too long exactly where that is more than the limit
+-- This much is taken of the last text that loading reads. The text is refused as too long only if this is more than the
+-- limit. If it is more, the text is refused as too long or memory runs out.
 pub record Takes {X : Type 0} (result : Result X End) (taken : ℕ) : Type 0 where
   pub most : taken ≤ most_bytes + piece_size
   pub too_long : IsTooLong result → most_bytes < taken
   pub only_too_long : most_bytes < taken → IsTooLong result ⊎ IsErrOf result OutOfMemory
 
--- What loading does to a shelf.
+-- Loading does this to a shelf.
 pub record LoadingLeaves {S X : Type 0} (held : S → Option Holding) (steady : S → Bool) (faults took : S → ℕ)
     (old new : S) (result : Result X End) : Type 0 where
-  -- it doesn't fail by itself
+  -- Loading has a fault of reading only if the shelf had one.
   pub read_fault : IsErrOf result ReadFault → Rose (faults old) (faults new)
   pub takes : Takes result (took new)
   pub kept : KeepsShelf (held old) (held new) (steady old) (steady new) (faults old) (faults new)
 
--- why a file that was not accepted gives no text: the fault that its reader found; or, where it was not read to its
--- end, how loading ends
+-- This is why a file that was not accepted gives no text: the fault that its reader found, or, if the file was not read
+-- to its end, how loading ends.
 abbrev pub fault_of : {F : Type 0} → Text → FileEnd F → Result F End
 fault_of text file.OutOfMemory = Err OutOfMemory
 fault_of text file.ReadFault = Err ReadFault

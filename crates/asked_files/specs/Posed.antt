@@ -1,4 +1,4 @@
--- The problem that the words and the texts of a command pose, or their first refusal.
+-- This module defines the problem that the words and the texts of a command pose, or their first refusal.
 use Rattle.std.specs.Prelude.{◌≡◌, ◌&&◌, ℕ, Bool, List, length, if◌then◌else◌}
 use Rattle.game_model.specs.Game.{Distribution}
 use Rattle.label_lines.specs.Labels.{Labelling}
@@ -18,23 +18,23 @@ use Rattle.asked_files.specs.Said.{Said, Refuses, Denoted, and_then, read_said}
 use Rattle.asked_files.specs.Sources.{Sources}
 use Rattle.asked_files.specs.Texts.{game_said, labels_said, owners_said}
 
--- the formula of a text
+-- This is the formula of a text.
 abbrev pub formula_read : List ℕ → Said Tree
 formula_read text = read_said OfFormula (formula_said text)
 
--- what a command names, read: a game, its labels, its owners, a formula
+-- What a command names is read as a game, its labels, its owners and a formula.
 pub record Reading : Type 0 where
   pub game : List (List Distribution)
   pub labels : Labelling
   pub owners : Ownership
   pub formula : Tree
 
--- labels and owners are those of the game's states
+-- Labels and owners are those of the game's states.
 pub record HasSizes (game : List (List Distribution)) (labels : Labelling) (owners : Ownership) : Type 0 where
   pub labels_of : labels.states ≡ length game
   pub owners_of : length owners.owners ≡ length game
 
--- what contracts see of what was loaded
+-- Contracts see what was loaded as this reading.
 abbrev pub reading_of : Loaded → Reading
 reading_of loaded = record {
   game = loaded.game;
@@ -43,35 +43,35 @@ reading_of loaded = record {
   formula = tree_of loaded.formula;
 }
 
--- the reading of a game, its labels and owners, and a formula
+-- This is the reading of a game, its labels and owners, and a formula.
 abbrev pub reading_with : List (List Distribution) → Labelling → Ownership → Tree → Reading
 reading_with game labels owners formula = record { game = game; labels = labels; owners = owners; formula = formula }
 
--- the reading behind the owners, behind the labels, behind the game, and the whole
+-- This is said when a game, its labels and its owners are known: the formula is read.
 abbrev pub behind_owners : Asked → List (List Distribution) → Labelling → Ownership → Said Reading
 behind_owners asked game labels owners =
     and_then (formula_read asked.formula) (λ formula. Denoted (reading_with game labels owners formula))
 
--- what is said where a game and its labels are known: the owners and then the formula are read
+-- This is said when a game and its labels are known: the owners and then the formula are read.
 abbrev pub behind_labels : Sources → Asked → List (List Distribution) → Labelling → Said Reading
 behind_labels sources asked game labels =
     and_then (owners_said asked.own sources.own (length game)) (λ owners. behind_owners asked game labels owners)
 
--- what is said where a game is known: labels, owners and then the formula are read
+-- This is said when a game is known: labels, owners and then the formula are read.
 abbrev pub behind_game : Sources → Asked → List (List Distribution) → Said Reading
 behind_game sources asked game = and_then (labels_said sources.lab (length game))
     (λ labels. behind_labels sources asked game labels)
 
--- what the texts and words of a command say together, or the first refusal, in the order game, labels, owners, formula
+-- The texts and words of a command say this together, or the first refusal, in the order game, labels, owners, formula.
 abbrev pub reading_said : Sources → Asked → Said Reading
 reading_said sources asked = and_then (game_said sources.tra) (λ game. behind_game sources asked game)
 
--- the problem that a reading poses where the goals of a formula are to be reached
+-- A reading poses this problem when the goals of a formula are to be reached.
 abbrev pub reach_posed : Tree → Reading → Said Problem
 reach_posed f r =
     and_then (read_said OfQuestion (pose_said r.game r.labels r.owners f)) (λ posing. Denoted (OfReach posing))
 
--- the problem that it poses, by the kind of its paths
+-- A reading poses this problem by the kind of its paths.
 abbrev pub posed_by : PathKind → Reading → Said Problem
 posed_by Until r = reach_posed r.formula r
 posed_by (Within steps) r = and_then (read_said OfQuestion (pose_said r.game r.labels r.owners r.formula))
@@ -80,24 +80,24 @@ posed_by Next r = and_then (read_said OfQuestion (pose_next_said r.game r.labels
     (λ posing. Denoted (OfNext posing))
 posed_by Always r = reach_posed (dual_of r.formula) r
 
--- that of a formula with others inside
+-- A reading whose formula has others inside poses this problem.
 abbrev pub nested_posed : Reading → Said Problem
 nested_posed r = and_then (read_said OfQuestion (initial_said r.labels r.owners r.formula))
     (λ initial. Denoted (OfNested (record { game = r.game; labels = r.labels; owners = r.owners }) initial))
 
--- the problem that a reading poses, whichever command asks
+-- A reading poses this problem, whichever command asks.
 abbrev pub any_posed : Reading → Said Problem
 any_posed r = if is_flat r.formula.left && is_flat r.formula.right then posed_by r.formula.kind r else nested_posed r
 
--- it is refused where the command does not take the formula
+-- A problem is refused if the command does not take the formula.
 abbrev pub where_taken : Bool → Problem → Said Problem
 where_taken taken problem = if taken then Denoted problem else Refuses WrongKind
 
--- the problem that a reading poses to a command that takes such paths, or why it poses none
+-- A reading poses this problem to a command that takes such paths, or is refused for this.
 abbrev pub posed : Paths → Reading → Said Problem
 posed paths reading = and_then (any_posed reading) (λ problem.
     where_taken (takes_formula paths reading.formula) problem)
 
--- the problem that these texts and words pose to a command that takes such paths, or their first refusal
+-- These texts and words pose this problem to a command that takes such paths, or this is their first refusal.
 abbrev pub problem_said : Paths → Sources → Asked → Said Problem
 problem_said paths sources asked = and_then (reading_said sources asked) (λ reading. posed paths reading)

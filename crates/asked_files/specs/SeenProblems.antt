@@ -1,4 +1,4 @@
--- What contracts see of a problem that was posed.
+-- This module says what contracts see of a problem that was posed.
 use Rattle.std.specs.Prelude.{◌≡◌, Some, None, Ok}
 use Rattle.formula_reader.specs.declared.formula.PathKind.{PathKind}
 use Rattle.formula_reader.specs.declared.formula.PathKind.TheVariants as kind_of
@@ -11,7 +11,7 @@ use Rattle.asked_files.specs.declared.problem.Problem.{Problem as Seen}
 use Rattle.asked_files.specs.declared.problem.Problem.TheVariants.{Reach, Within, Next, Nested}
 use Rattle.asked_files.specs.Problems.{Problem, OfReach, OfWithin, OfNext, OfNested, IsReaching}
 
--- what contracts see of a problem that was posed
+-- Contracts see a posed problem as this one.
 abbrev pub problem_of : Seen → Problem
 problem_of (Reach posed dual) = OfReach (posing_of posed)
 problem_of (Within posed steps) = OfWithin steps (posing_of posed)
@@ -22,7 +22,7 @@ problem_of (Nested loaded initial) = OfNested (record {
   owners = loaded.now.owners;
 }) initial.items
 
--- beside the question of `G` stands its dual, and beside that of `F` and `U` none
+-- The question of `G` comes with its dual, and that of `F` and `U` with none.
 abbrev pub HasDual : Tree → Seen → Type 0
 HasDual f (Reach posed None) = f.kind ≡ kind_of.Until
 HasDual f (Reach posed (Some dual)) = (f.kind ≡ kind_of.Always) × (tree_of dual ≡ dual_of f)
@@ -30,28 +30,28 @@ HasDual f (Within posed steps) = Unit {0}
 HasDual f (Next posed) = Unit {0}
 HasDual f (Nested loaded initial) = Unit {0}
 
--- it is the problem of such paths
+-- A problem is of paths of this kind, unless its formula has others inside.
 abbrev pub IsOfKind : PathKind → Seen → Type 0
 IsOfKind kind (Reach posed dual) = IsReaching kind
 IsOfKind kind (Within posed steps) = kind ≡ kind_of.Within steps
 IsOfKind kind (Next posed) = kind ≡ kind_of.Next
 IsOfKind kind (Nested loaded initial) = Unit {0}
 
--- goals are to be reached without a bound on the steps: of `G` those of its dual
+-- Goals are to be reached without a bound on the steps, and for `G` those of its dual.
 abbrev pub IsUnbounded : Seen → Type 0
 IsUnbounded (Reach posed dual) = Unit {0}
 IsUnbounded (Within posed steps) = ⊥
 IsUnbounded (Next posed) = ⊥
 IsUnbounded (Nested loaded initial) = ⊥
 
--- a formula stands inside
+-- The formula has others inside.
 abbrev pub HasInside : Seen → Type 0
 HasInside (Reach posed dual) = ⊥
 HasInside (Within posed steps) = ⊥
 HasInside (Next posed) = ⊥
 HasInside (Nested loaded initial) = Unit {0}
 
--- what was loaded stands in the problem of a formula with others inside, and these are its initial states
+-- The problem of a formula with others inside has what was loaded, and its initial states.
 abbrev pub IsOfLoaded : Loaded → Seen → Type 0
 IsOfLoaded other (Reach posed dual) = Unit {0}
 IsOfLoaded other (Within posed steps) = Unit {0}

@@ -1,4 +1,4 @@
-//! The certificate of an audit, read and checked.
+//! This module reads and checks the certificate of an audit.
 
 ghost use Rattle.std.specs.Prelude.{◌≡◌, ◌≤◌, ◌↔◌, None, Err, IfOk, IsErrOf, IsTrue, length, true};
 ghost use Rattle.text_lines.specs.Limits.{most_bytes};
@@ -19,7 +19,7 @@ use plan_text::{Plan, PlanCause};
 use run_refusals::{Refusal, Text};
 use std::alloc::Global;
 
-/// The certificate of a file, where a question accepts it.
+/// Reads the certificate of a file, if a question accepts it.
 pub fn load_certificate<H: Shelf>(
     alloc: Global,
     shelf: &mut H,
@@ -62,7 +62,7 @@ fn certificate_in(alloc: Global, question: &Question, bytes: &[u8]) -> Result<Pl
     }
 }
 
-// Whether memory was wanting.
+// Returns whether memory ran out.
 fn is_out_of_memory(fault: AuditFault) -> bool
     ensures { IsTrue result ↔ IsOutOfMemory fault }
 {

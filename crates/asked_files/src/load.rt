@@ -1,4 +1,4 @@
-//! The texts of a run, read and judged one after another.
+//! This module reads and judges the texts of a run, one after another.
 
 ghost use Rattle.std.specs.Prelude.{◌≡◌, ◌≤◌, ◌⊎◌, IsErrOf, IsOk, IfOk, option_map, length};
 ghost use Rattle.text_lines.specs.Limits.{most_bytes};
@@ -15,7 +15,7 @@ use std::alloc::Global;
 use text_lines::MOST_BYTES;
 use tra_reader::read_tra_from;
 
-/// How loading ends that gives nothing.
+/// Loading ends in one of these ways if it gives nothing.
 #[derive(Drop)]
 pub enum End {
     OutOfMemory,
@@ -48,7 +48,7 @@ impl From<PoseFault> for End {
     }
 }
 
-/// The bytes of a text.
+/// Reads the bytes of a text.
 pub fn load_text<H: Shelf>(
     alloc: Global,
     shelf: &mut H,
@@ -69,7 +69,7 @@ pub fn load_text<H: Shelf>(
     }
 }
 
-// The fault for which a reader refuses a file; or, where the file is not read to its end, how loading ends.
+// Returns the fault for which a reader refuses a file. If the file is not read to its end, it returns how loading ends.
 fn fault_of<F: Drop>(text: Text, end: FileEnd<F>) -> Result<F, End>
     ensures { result ≡ fault_of text end }
 {
@@ -81,7 +81,7 @@ fn fault_of<F: Drop>(text: Text, end: FileEnd<F>) -> Result<F, End>
     }
 }
 
-/// The game of the transition file.
+/// Reads the game of the transition file.
 pub fn load_game<H: Shelf>(alloc: Global, shelf: &mut H, name: &str) -> Result<Game, End>
     ensures says { LoadsText (H.held shelf.old) (H.steady shelf.old) (λ held. held name.now) (λ x. x) result game_said }
     ensures shelf { LoadingLeaves H.held H.steady H.faults H.taken shelf.old shelf.new result }
@@ -96,7 +96,7 @@ pub fn load_game<H: Shelf>(alloc: Global, shelf: &mut H, name: &str) -> Result<G
     }
 }
 
-/// The labels of the label file.
+/// Reads the labels of the label file.
 pub fn load_labels<H: Shelf>(
     alloc: Global,
     shelf: &mut H,
@@ -118,7 +118,7 @@ pub fn load_labels<H: Shelf>(
     }
 }
 
-/// The owners of the owner file.
+/// Reads the owners of the owner file.
 pub fn load_owner_file<H: Shelf>(
     alloc: Global,
     shelf: &mut H,
@@ -140,7 +140,7 @@ pub fn load_owner_file<H: Shelf>(
     }
 }
 
-/// One player owns all states.
+/// Lets one player own all states.
 pub fn no_owner_file(alloc: Global, states: u32) -> Result<Owners, End>
     ensures says { IfOk result (λ owners. owners ≡ single_owner states) }
     ensures sizes { IfOk result (λ owners. length owners.owners ≡ states) }
@@ -149,7 +149,7 @@ pub fn no_owner_file(alloc: Global, states: u32) -> Result<Owners, End>
     Ok(Owners::single(alloc, states)?)
 }
 
-/// The owners of the owner file, where one is named; else one player owns all states.
+/// Reads the owners of the owner file if one is named. Else one player owns all states.
 pub fn load_owners<H: Shelf>(
     alloc: Global,
     shelf: &mut H,

@@ -1,4 +1,4 @@
-//! What a command names, loaded: a game, its labels, its owners and a formula; and the problem that these pose.
+//! This module loads what a command names: a game, its labels, its owners and a formula. It also poses their problem.
 
 ghost use Rattle.std.specs.Prelude.{◌≡◌, ◌≢◌, ◌<◌, ◌↔◌, ◌&&◌, All, Err, IfOk, IsErrOf, false, true};
 ghost use Rattle.game_model.specs.Query.{states};
@@ -31,7 +31,7 @@ use rpatl_syntax::laws::thresholds_are_at_most_one;
 use run_refusals::Refusal;
 use std::alloc::Global;
 
-/// A game, its labels, its owners, and a formula.
+/// This is a game, its labels, its owners, and a formula.
 #[derive(Drop)]
 pub struct Loaded {
     pub game: Game,
@@ -40,7 +40,7 @@ pub struct Loaded {
     pub formula: Formula,
 }
 
-// The formula of a command.
+// Reads the formula of a command.
 fn load_formula(alloc: Global, text: &str) -> Result<Formula, End>
     ensures says { Loads tree_of result (formula_read text.now) }
     ensures spelled { IfOk result (λ formula. DenotesFormula text.now (tree_of formula)) }
@@ -49,7 +49,7 @@ fn load_formula(alloc: Global, text: &str) -> Result<Formula, End>
     ensures caused { EndsCaused result }
     ensures short { IsTooLong result → ⊥ }
 {
-    // Laws: these calls do nothing.
+    // These calls state laws and do nothing.
     formulas_are_those_that_a_text_denotes();
     thresholds_are_at_most_one();
     match read_formula(alloc, text) {
@@ -61,7 +61,7 @@ fn load_formula(alloc: Global, text: &str) -> Result<Formula, End>
     }
 }
 
-/// What a command names, loaded: the first text that is refused, or can't be read, ends it.
+/// Loads what a command names. The first text that is refused, or can't be read, ends it.
 pub fn load_model<H: Shelf>(
     alloc: Global,
     shelf: &mut H,
@@ -89,7 +89,7 @@ pub fn load_model<H: Shelf>(
     })
 }
 
-/// The problem that what was loaded poses to a command that takes such formulas.
+/// Poses the problem of what was loaded, for a command that takes such formulas.
 pub fn pose_loaded(alloc: Global, loaded: &Loaded, paths: Paths) -> Result<Problem<'_>, End>
     requires sizes { HasSizes loaded.now.game loaded.now.labels loaded.now.owners }
     requires share { IsAtMostOne loaded.now.formula.bound }
@@ -110,7 +110,7 @@ pub fn pose_loaded(alloc: Global, loaded: &Loaded, paths: Paths) -> Result<Probl
     }
 }
 
-// The problem of what was loaded, of which this says whether no formula stands inside.
+// Poses the problem of what was loaded. `flat` says whether no formula is inside.
 fn pose_any(alloc: Global, loaded: &Loaded, flat: bool) -> Result<Problem<'_>, End>
     requires sizes { HasSizes loaded.now.game loaded.now.labels loaded.now.owners }
     requires share { IsAtMostOne loaded.now.formula.bound }
@@ -130,7 +130,7 @@ fn pose_any(alloc: Global, loaded: &Loaded, flat: bool) -> Result<Problem<'_>, E
     }
 }
 
-// The problem of a formula with others inside.
+// Poses the problem of a formula with others inside.
 fn pose_nested(alloc: Global, loaded: &Loaded) -> Result<Problem<'_>, End>
     requires sizes { HasSizes loaded.now.game loaded.now.labels loaded.now.owners }
     ensures says { Loads problem_of result (nested_posed (reading_of loaded.now)) }
@@ -144,7 +144,7 @@ fn pose_nested(alloc: Global, loaded: &Loaded) -> Result<Problem<'_>, End>
     Ok(Problem::Nested(loaded, initial))
 }
 
-// The problem of what was loaded, by the kind of its paths.
+// Poses the problem of what was loaded, by the kind of its paths.
 fn pose_kind(alloc: Global, loaded: &Loaded) -> Result<Problem<'_>, End>
     requires sizes { HasSizes loaded.now.game loaded.now.labels loaded.now.owners }
     requires share { IsAtMostOne loaded.now.formula.bound }
@@ -174,7 +174,7 @@ fn pose_kind(alloc: Global, loaded: &Loaded) -> Result<Problem<'_>, End>
     }
 }
 
-// The dual of a formula.
+// Returns the dual of a formula.
 fn dual_of_formula(alloc: Global, formula: &Formula) -> Result<Formula, End>
     requires always { formula.now.kind ≡ PathKind.Always }
     requires share { IsAtMostOne formula.now.bound }
@@ -184,7 +184,7 @@ fn dual_of_formula(alloc: Global, formula: &Formula) -> Result<Formula, End>
     Ok(dual(alloc, formula)?)
 }
 
-// The question of a formula whose goals are reached.
+// Poses the question of a formula whose goals are reached.
 fn pose_reach<'g>(alloc: Global, loaded: &'g Loaded, formula: &Formula) -> Result<Posed<'g>, End>
     requires sizes { HasSizes loaded.now.game loaded.now.labels loaded.now.owners }
     requires kind { IsUntil formula.now.kind }
@@ -199,7 +199,7 @@ fn pose_reach<'g>(alloc: Global, loaded: &'g Loaded, formula: &Formula) -> Resul
     Ok(posed)
 }
 
-// The question of a formula with `X`.
+// Poses the question of a formula with `X`.
 fn pose_step(alloc: Global, loaded: &Loaded) -> Result<PosedNext<'_>, End>
     requires sizes { HasSizes loaded.now.game loaded.now.labels loaded.now.owners }
     requires kind { loaded.now.formula.kind ≡ PathKind.Next }

@@ -1,4 +1,4 @@
-//! What a formula asks of a game.
+//! This module says what a formula asks of a game.
 
 ghost use Rattle.std.specs.Prelude.{◌≡◌};
 
@@ -6,16 +6,16 @@ use crate::model::Loaded;
 use formula_reader::{Formula, PathKind};
 use formula_sets::{Posed, PosedNext};
 
-/// What a formula asks, by the kind of its paths.
+/// A formula asks this, by the kind of its paths.
 #[derive(Drop)]
 pub enum Problem<'g> {
-    /// `F` and `U`: to reach a goal. `G`: to reach one of its dual, which stands beside the question.
+    /// `F` and `U` ask to reach a goal. `G` asks to reach one of its dual, which comes with the question.
     Reach(Posed<'g>, Option<Formula>),
-    /// `F<=k` and `U<=k`: to reach a goal within so many steps.
+    /// `F<=k` and `U<=k` ask to reach a goal within this many steps.
     Within(Posed<'g>, u32),
-    /// `X`: to be where the right side holds after one step.
+    /// `X` asks to be where the right side holds after one step.
     Next(PosedNext<'g>),
-    /// A formula with others inside: what was loaded, and the initial states.
+    /// A formula with others inside has what was loaded, and the initial states.
     Nested(&'g Loaded, Vec<u32>),
 }
 
@@ -27,7 +27,7 @@ impl<'g> Problem<'g> {
     ghost use Rattle.asked_files.specs.Problems.{posing_in};
     ghost use Rattle.asked_files.specs.SeenProblems.{HasDual, IsUnbounded, problem_of};
 
-    /// The question whose goals are reached, without a bound on the steps: of `G` that of its dual.
+    /// Returns the question whose goals are reached without a bound on the steps. For `G` it is that of its dual.
     pub fn reached(&self) -> &Posed<'g>
         requires { IsUnbounded self.now }
         ensures { posing_in (problem_of self.now) ≡ Some (posing_of result.now) }
@@ -38,7 +38,7 @@ impl<'g> Problem<'g> {
         }
     }
 
-    /// The formula whose question is answered: of `G` the dual.
+    /// Returns the formula whose question is answered. For `G` it is the dual.
     pub fn answered<'a>(&'a self, formula: &'a Formula) -> &'a Formula
         requires unbounded { IsUnbounded self.now }
         requires dual { HasDual (tree_of formula.now) self.now }
@@ -52,14 +52,14 @@ impl<'g> Problem<'g> {
     }
 }
 
-/// Which formulas a command takes.
+/// A command takes these formulas.
 #[derive(Clone, Copy, Debug, PartialEq, Eq)]
 pub enum Paths {
-    /// All.
+    /// It takes all formulas.
     Any,
-    /// Those without a bound on the steps, and none inside: `F`, `U` and `G`.
+    /// It takes those without a bound on the steps and none inside: `F`, `U` and `G`.
     Unbounded,
-    /// `F` and `U` alone, and none inside.
+    /// It takes only `F` and `U`, and none inside.
     Reaching,
 }
 
@@ -68,7 +68,7 @@ impl Paths {
     ghost use Rattle.formula_reader.specs.Formula.{is_flat, tree_of};
     ghost use Rattle.asked_files.specs.Problems.{takes, takes_formula};
 
-    /// Whether a formula with such a path is taken.
+    /// Returns whether a formula with such a path and none inside is taken.
     pub fn takes(self, kind: PathKind) -> bool
         ensures { result ≡ takes self kind }
     {
@@ -78,7 +78,7 @@ impl Paths {
         }
     }
 
-    /// Whether a formula is taken, of which this says whether none stands inside.
+    /// Returns whether a formula is taken. `flat` says whether no formula is inside.
     pub fn takes_formula(self, formula: &Formula, flat: bool) -> bool
         requires { flat ≡ (is_flat (tree_of formula.now).left && is_flat (tree_of formula.now).right) }
         ensures { result ≡ takes_formula self (tree_of formula.now) }

@@ -1,4 +1,4 @@
-//! Values to begin with, from a file of any tool.
+//! This module reads values to begin with, from a file of any tool.
 
 ghost use Rattle.std.specs.Prelude.{◌≡◌, ◌≤◌, None, Some, Err, IfOk, IfSome, IsErrOf, is_some, length, option_map, true};
 ghost use Rattle.text_lines.specs.Limits.{most_bytes};
@@ -16,7 +16,7 @@ use run_refusals::{Refusal, Text};
 use std::alloc::Global;
 use values_reader::{ValuesEnd, read_values};
 
-/// The values of a file, one for each of so many states, where a file is named. Where none is, nothing is asked of the
+/// Reads the values of a file, one for each of this many states, if a file is named. Otherwise nothing is asked of the
 /// shelf.
 pub fn load_values<H: Shelf>(
     alloc: Global,
@@ -43,7 +43,7 @@ pub fn load_values<H: Shelf>(
     }
 }
 
-// The values of a file.
+// Reads the values of a file.
 fn load_values_file<H: Shelf>(
     alloc: Global,
     shelf: &mut H,

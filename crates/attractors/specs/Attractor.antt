@@ -1,4 +1,4 @@
--- The attractor of the goals: a set that grew from them by what it attracts, and attracts no more.
+-- The attractor of the goals is a set that grew from them by the states that it attracts, and that attracts no more.
 use Rattle.std.specs.Prelude.{◌≡◌, ℕ, ◌<◌, Bool, true, false, not, ◌&&◌, List, length, slice_index_or, slice_set}
 use Rattle.std.specs.List.{list_any, list_all}
 use Rattle.game_model.specs.declared.game.Side.{Side}
@@ -6,51 +6,51 @@ use Rattle.game_model.specs.declared.game.Side.TheVariants.{Max, Min}
 use Rattle.game_model.specs.Game.{Distribution, choices_of}
 use Rattle.game_model.specs.Query.{Query, states, is_goal, is_dead, side_at}
 
--- What is barred: states, which may not join, and choices, which attract nobody. Both stay in the game, so a choice of
--- the minimiser that is barred is a way out for it.
+-- Barred states may not join, and barred choices attract no state. Both stay in the game, so a barred choice of the
+-- minimiser is a way out for it.
 pub record Barred : Type 0 where
   pub states : ℕ → Bool
   pub choices : Distribution → Bool
 
--- the dead states alone are barred
+-- Only the dead states are barred.
 abbrev pub dead_barred : Query → Barred
 dead_barred q = record { states = is_dead q; choices = λ _. false }
 
--- some successor of the choice is in the set
+-- Some successor of the choice is in the set.
 abbrev pub meets : List Bool → Distribution → Bool
 meets set choice = list_any (λ e. slice_index_or set e.to false) choice.edges
 
--- the choice is not barred, and some successor is in the set
+-- A choice serves if it is not barred and some successor is in the set.
 abbrev pub serves : Barred → List Bool → Distribution → Bool
 serves barred set choice = not (barred.choices choice) && meets set choice
 
--- some choice of the maximiser serves; each choice of the minimiser does
+-- The set attracts a state of the maximiser if some choice serves, and a state of the minimiser if each choice does.
 abbrev pub attracts : Side → Barred → List Bool → List Distribution → Bool
 attracts Max barred set choices = list_any (serves barred set) choices
 attracts Min barred set choices = list_all (serves barred set) choices
 
--- the set attracts the state
+-- The set attracts the state.
 abbrev pub is_attracted : Query → Barred → List Bool → ℕ → Bool
 is_attracted q barred set s = attracts (side_at q s) barred set (choices_of q.game s)
 
--- the goals alone
+-- The set has the goals and no other state.
 pub record AreGoals (q : Query) (set : List Bool) : Type 0 where
   pub many : length set ≡ states q
   pub each : (s : ℕ) → s < states q → slice_index_or set s false ≡ is_goal q s
 
--- a set that grew from the goals, barred or not: one after another, states joined that are not barred and that the set
--- attracted
+-- The set grew from the goals, barred or not: states joined one after another, each not barred and attracted by the
+-- set.
 pub data Grew (q : Query) (barred : Barred) : List Bool → Type 0 where
   from_goals : (set : List Bool) → AreGoals q set → Grew q barred set
   with_state : (set : List Bool) (s : ℕ) → Grew q barred set → s < states q → barred.states s ≡ false
       → is_attracted q barred set s ≡ true → Grew q barred (slice_set set s true)
 
--- a set attracts no other state that is not barred
+-- The set attracts no other state that is not barred.
 abbrev pub IsClosed : Query → Barred → List Bool → Type 0
 IsClosed q barred set = (s : ℕ) → s < states q → slice_index_or set s false ≡ false → barred.states s ≡ false
     → is_attracted q barred set s ≡ false
 
--- the attractor: it grew from the goals, and attracts no other state that is not barred
+-- The attractor grew from the goals, and attracts no other state that is not barred.
 pub record IsAttractor (q : Query) (barred : Barred) (set : List Bool) : Type 0 where
   pub many : length set ≡ states q
   pub grew : Grew q barred set

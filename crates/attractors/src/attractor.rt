@@ -1,4 +1,4 @@
-//! The attractor of the goals.
+//! This module finds the attractor of the goals.
 
 ghost use Rattle.std.specs.Prelude.{◌≡◌, ℕ, ◌+◌, ◌<◌, [], length, take, IfOk, OnOk};
 ghost use Rattle.game_model.specs.Growing.{IsLonger};
@@ -14,12 +14,12 @@ use game_outside::OutOfMemory;
 use predecessors::Predecessors;
 use std::alloc::Global;
 
-/// Where more than one in so many states is a member that was not taken off the order, each other state is
-/// tested instead. So there are at most as many passes over all states.
+/// If more than one in this many states is a member that is still in the order, each other state is tested instead. So
+/// there are at most this many passes over all states.
 const SHARE: usize = 16;
 
-/// The attractor of the goals, with chance on the maximiser's side, over the predecessors in the question's game. The
-/// only error is want of memory.
+/// Returns the attractor of the goals, with chance on the maximiser's side, from the predecessors in the question's
+/// game. The only error is that memory ran out.
 pub fn attractor_of<S: Bars>(
     alloc: Global,
     question: &Question,
@@ -39,7 +39,7 @@ pub fn attractor_of<S: Bars>(
     Ok(growth.members)
 }
 
-/// Takes the member at this place off the order, or all members from there on. Gives the next place.
+/// Takes the member at this place off the order, or all members from there on, and gives the next place.
 fn advance<S: Bars>(
     question: &Question,
     predecessors: &Predecessors,

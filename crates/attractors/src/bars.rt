@@ -1,4 +1,4 @@
-//! Which states may not join, and which choices attract nobody.
+//! This module says which states may not join, and which choices attract no state.
 
 ghost use Rattle.std.specs.Prelude.{◌≡◌, ◌<◌, length};
 ghost use Rattle.game_model.specs.Game.{choices_of, choice_of};
@@ -7,21 +7,21 @@ ghost use Rattle.attractors.specs.Attractor.{Barred, dead_barred};
 
 use game_model::Question;
 
-/// What bars states and choices of a question.
+/// A type with this trait bars states and choices of a question.
 pub trait Bars {
-    /// Whether it is one for this question.
+    /// It can be used for this question.
     ghost fits: { Self → Query → Type 0 };
 
-    /// The states and choices that it bars.
+    /// It bars these states and choices.
     ghost barred: { Self → Query → Barred };
 
-    /// Whether a state is barred.
+    /// Returns whether a state is barred.
     fn bars_state(&self, question: &Question, state: u32) -> bool
         requires fits { fits self.now question.now }
         requires state { state < states question.now }
         ensures { result ≡ (barred self.now question.now).states state };
 
-    /// Whether a choice of a state is barred.
+    /// Returns whether a choice of a state is barred.
     fn bars_choice(&self, question: &Question, state: u32, choice: u32) -> bool
         requires fits { fits self.now question.now }
         requires state { state < states question.now }
@@ -29,7 +29,7 @@ pub trait Bars {
         ensures { result ≡ (barred self.now question.now).choices (choice_of question.now.game state choice) };
 }
 
-/// Bars the dead states, and no choice.
+/// This bars the dead states, and no choice.
 #[derive(Drop)]
 pub struct BarsDead {}
 

@@ -1,4 +1,4 @@
-//! A set of states that grows backward from the goals.
+//! This module grows a set of states backward from the goals.
 
 ghost use Rattle.std.specs.Prelude.{◌≡◌, ◌≢◌, ℕ, ◌+◌, ◌<◌, List, [], ◌∷◌, ◌++◌, false, length, slice_index, slice_index_or, IfOk, OnOk};
 ghost use Rattle.game_model.specs.Growing.{IsLonger};
@@ -13,8 +13,8 @@ use game_outside::OutOfMemory;
 use predecessors::Move;
 use std::alloc::Global;
 
-/// The members; for each state of the minimiser that is neither member nor barred the first choice that is not known to
-/// serve; and the members in the order in which they joined.
+/// `members` marks the members. `awaited` has, for each state of the minimiser that is neither a member nor barred, the
+/// first choice that is not known to serve. `order` lists the members in the order in which they joined.
 #[derive(Drop)]
 pub struct Growth {
     pub members: Vec<bool>,
@@ -23,7 +23,7 @@ pub struct Growth {
 }
 
 impl Growth {
-    /// The goals alone.
+    /// Begins with the goals as the only members.
     pub fn of_goals(alloc: Global, question: &Question) -> Result<Growth, OutOfMemory>
         ensures { IfOk result (λ g. (barred : Barred) → IsGrowth question.now barred
             [] g.members.items g.awaited.items g.order.items) }
@@ -47,8 +47,8 @@ impl Growth {
         })
     }
 
-    /// Follows a move that leads to a member, where neither its state nor its choice is barred. A state of the
-    /// maximiser joins by it; one of the minimiser joins where it waited for this choice, and each later one serves.
+    /// Follows a move that leads to a member, if neither its state nor its choice is barred. A state of the maximiser
+    /// joins by it. A state of the minimiser joins if it waited for this choice and each later one serves.
     pub fn follow<S: Bars>(
         &mut self,
         question: &Question,
@@ -97,7 +97,7 @@ impl Growth {
         Ok(())
     }
 
-    /// Tests a state that is no member: it joins where the members attract it.
+    /// Tests a state that is no member: it joins if the members attract it.
     pub fn test<S: Bars>(
         &mut self,
         question: &Question,

@@ -1,4 +1,4 @@
-//! Laws of attractors. Each function does nothing: its contract is the law.
+//! This module has the laws of attractors. Each function does nothing: its contract is the law.
 
 ghost use Rattle.std.specs.Prelude.{◌≡◌, ℕ, ◌<◌, Bool, List, true, false, slice_index_or};
 ghost use Rattle.game_model.specs.Query.{Query, states, is_goal};
@@ -11,7 +11,7 @@ pub fn attractors_are_least()
         → ((s : ℕ) → s < states q → is_goal q s ≡ true → slice_index_or other s false ≡ true) → IsLarger set other }
 {}
 
-/// So there is only one.
+/// There is only one attractor.
 pub fn attractors_are_one()
     ensures { (q : Query) (barred : Barred) (set other : List Bool) → IsAttractor q barred set
         → IsAttractor q barred other → set ≡ other }

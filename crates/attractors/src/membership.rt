@@ -1,4 +1,4 @@
-//! Whether choices have a successor in a set of states.
+//! This module says whether choices have a successor in a set of states.
 
 ghost use Rattle.std.specs.Prelude.{◌≡◌, ℕ, ◌<◌, ◌≤◌, true, false, not, length, map, IfOk};
 ghost use Rattle.std.specs.List.{list_any};
@@ -10,8 +10,8 @@ use crate::bars::Bars;
 use game_model::Question;
 use std::alloc::{AllocError, Global};
 
-/// The first choice of a state, from this one on, that is barred or has no successor in the set; the number of choices
-/// where there is none.
+/// Returns the first choice of a state, from this one on, that is barred or has no successor in the set. If there is
+/// none, it returns the number of choices.
 pub fn first_unserved<S: Bars>(
     question: &Question,
     bars: &S,
@@ -39,7 +39,7 @@ pub fn first_unserved<S: Bars>(
     count
 }
 
-/// Whether some choice of a state serves.
+/// Returns whether some choice of a state serves.
 pub fn some_serves<S: Bars>(question: &Question, bars: &S, set: &[bool], state: u32) -> bool
     requires fits { S.fits bars.now question.now }
     requires state { state < states question.now }
@@ -54,7 +54,7 @@ pub fn some_serves<S: Bars>(question: &Question, bars: &S, set: &[bool], state: 
     false
 }
 
-/// Whether the choice is not barred and has a successor in the set.
+/// Returns whether the choice is not barred and has a successor in the set.
 pub fn serves<S: Bars>(question: &Question, bars: &S, set: &[bool], state: u32, choice: u32) -> bool
     requires fits { S.fits bars.now question.now }
     requires state { state < states question.now }
@@ -65,7 +65,7 @@ pub fn serves<S: Bars>(question: &Question, bars: &S, set: &[bool], state: u32, 
     !bars.bars_choice(question, state, choice) && meets(question, set, state, choice)
 }
 
-/// Whether some successor of the choice is in the set.
+/// Returns whether some successor of the choice is in the set.
 pub fn meets(question: &Question, set: &[bool], state: u32, choice: u32) -> bool
     requires state { state < states question.now }
     requires choice { choice < length (choices_of question.now.game state) }
@@ -81,7 +81,7 @@ pub fn meets(question: &Question, set: &[bool], state: u32, choice: u32) -> bool
     false
 }
 
-/// For each state whether it is not in the set.
+/// Says for each state whether it is not in the set.
 pub fn complement(alloc: Global, set: &[bool]) -> Result<Vec<bool>, AllocError>
     ensures { IfOk result (λ others. others.items ≡ map not set.now) }
 {

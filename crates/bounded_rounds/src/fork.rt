@@ -1,4 +1,4 @@
-//! One step, forked and joined by halves of the workers.
+//! This module takes one step, forked and joined by halves of the workers.
 
 ghost use Rattle.std.specs.Prelude.{◌*◌, ◌≤◌, length};
 ghost use Rattle.std.specs.Thread.{IsSync};
@@ -10,8 +10,8 @@ use fixed_bellman::Bounds;
 use game_outside::Gate;
 use std::thread::{Threads, join_mut};
 
-/// The steps at the states of the workers from `worker` on: worker w has the states from w times `size` on, so many of
-/// them. Where it answers no, each of the steps is the entry of the table.
+/// Takes the steps at the states of the workers from `worker` on: worker w has `size` states, from w times `size` on,
+/// and the last worker has the rest. If it answers no, each of the steps is the entry of the table.
 #[cycle(halves)]
 pub fn step_chunks<R: Threads + Sync, G: Gate + Sync>(
     rt: &R,
@@ -37,7 +37,7 @@ pub fn step_chunks<R: Threads + Sync, G: Gate + Sync>(
     first | second
 }
 
-/// The same for the states of two rows of workers, side by side: those from `worker` on, and those from `other` on.
+/// Does the same for two rows of workers side by side: those from `worker` on, and those from `other` on.
 #[cycle(halves)]
 fn step_halves<R: Threads + Sync, G: Gate + Sync>(
     rt: &R,

@@ -1,7 +1,7 @@
-//! The limits of a sweep, each in one place.
+//! This module has each limit of a sweep in one place.
 
-/// The most steps of a sweep.
+/// A sweep has at most this many steps.
 pub const MOST_STEPS: u32 = 1_000_000;
 
-/// The most workers of a sweep.
+/// A sweep has at most this many workers.
 pub const MOST_WORKERS: u32 = 64;

@@ -1,4 +1,4 @@
-//! The steps of one worker.
+//! This module takes the steps of one worker.
 
 ghost use Rattle.std.specs.Prelude.{◌≡◌, ◌+◌, ◌<◌, ◌≤◌, length, slice_index, All, false};
 ghost use Rattle.game_model.specs.Query.{states};
@@ -11,14 +11,14 @@ use fixed_bellman::{Bounds, step_bounds};
 use game_model::UNIT;
 use game_outside::Gate;
 
-/// How many states are stepped between two looks ahead.
+/// This many states are stepped between two looks ahead.
 const STRETCH: usize = 64;
 
-/// The most states whose table stays near the processor: with more, looking ahead pays.
+/// The table of this many states stays near the processor. With more states, it pays to look ahead.
 const MOST_NEAR: u32 = 131_072;
 
-/// The steps at the states in a row from `first` on, by one worker, who passes the gate before each of them. Where it
-/// answers no, each of them is the entry of the table.
+/// Takes the steps at the states in a row from `first` on, by one worker, who passes the gate before each state. If it
+/// answers no, each of the steps is the entry of the table.
 pub fn step_part<G: Gate>(
     tables: Tables<'_>,
     gate: &G,
@@ -42,7 +42,7 @@ pub fn step_part<G: Gate>(
 }
 
 /// Reads the entries of the successors of a stretch of states, so that the memory fetches them at once. No entry is
-/// above the unit, so it answers no; since it answers, the compiler keeps the reads.
+/// above the unit, so it answers no. The compiler keeps the reads, because the answer is used.
 fn look_ahead(tables: Tables<'_>, from: u32, to: u32) -> bool
     requires order { from ≤ to }
     requires inside { to ≤ states tables.question.now }
@@ -52,7 +52,7 @@ fn look_ahead(tables: Tables<'_>, from: u32, to: u32) -> bool
     game.states() > MOST_NEAR && has_excess(tables.table, game.successors_between(from, to))
 }
 
-/// Whether an entry of these states is above the unit.
+/// Returns whether an entry of these states is above the unit.
 fn has_excess(table: &[Bounds], wanted: &[u32]) -> bool
     requires inside { All (λ s. s < length table.now) wanted.now }
     requires units { All AreUnits table.now }
@@ -66,7 +66,7 @@ fn has_excess(table: &[Bounds], wanted: &[u32]) -> bool
     false
 }
 
-/// The steps at the states in a row from place `from` to place `to` of a part that has those below `from`.
+/// Takes the steps at the states in a row from place `from` to place `to` of a part that has those below `from`.
 fn step_stretch<G: Gate>(
     tables: Tables<'_>,
     gate: &G,
@@ -95,7 +95,7 @@ fn step_stretch<G: Gate>(
     changed
 }
 
-/// The step of both bounds of a state, and whether one of them is not the entry there.
+/// Returns the step of both bounds of a state, and whether one of them is not the entry there.
 fn step_state(tables: Tables<'_>, state: u32) -> (Bounds, bool)
     requires { state < states tables.question.now }
     ensures down { result.0.lower ≡ down_step tables.entry.question.now

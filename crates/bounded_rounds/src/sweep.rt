@@ -1,4 +1,4 @@
-//! The steps of a sweep, one after another.
+//! This module takes the steps of a sweep, one after another.
 
 ghost use Rattle.std.specs.Prelude.{◌≡◌, ◌≤◌, length, slice_index, All, IfOk};
 ghost use Rattle.game_model.specs.Query.{states};
@@ -17,25 +17,25 @@ use std::alloc::{AllocError, Global};
 use std::mem;
 use std::thread::Threads;
 
-/// How many edges make one more worker worth its thread.
+/// This many edges make one more worker worth its thread.
 const EDGES_FOR_A_WORKER: u64 = 50_000;
 
-/// A lower and an upper table, in units, by state.
+/// A sweep is a lower and an upper table, in units, by state.
 #[derive(Drop)]
 pub struct Sweep {
-    /// The lower table.
+    /// This is the lower table.
     pub lower: Vec<u64>,
-    /// The upper table.
+    /// This is the upper table.
     pub upper: Vec<u64>,
 }
 
-/// The tables after exactly so many steps from an opening table: down steps for the lower one, up steps for the upper
-/// one. They are the same for every number of workers and every schedule. With no steps both are the opening table. The
-/// only error is want of memory.
+/// Returns the tables after exactly `steps` steps from an opening table: down steps for the lower one, up steps for the
+/// upper one. They are the same for every number of workers and every schedule. With no steps both are the opening
+/// table. The only error is that memory ran out.
 ///
-/// Each step reads one table of bounds and writes another. Where W workers take part, worker w has the states from w
-/// times the number of states over W, rounded up, and passes the gate before each of them. All workers take part in the
-/// first step; later on there are fewer where the game is small.
+/// Each step reads one table of bounds and writes another. With W workers, n is the number of states over W, rounded
+/// up: worker w has up to n states, from w times n on, and passes the gate before each of them. The first step may use
+/// all workers. Later steps use fewer if the game is small.
 pub fn bounded<R: Threads + Sync, G: Gate + Sync>(
     rt: &R,
     alloc: Global,
@@ -60,7 +60,7 @@ pub fn bounded<R: Threads + Sync, G: Gate + Sync>(
     Ok(parted(alloc, &table)?)
 }
 
-/// The opening table as lower and upper bounds.
+/// Returns the opening table as lower and upper bounds.
 fn open(alloc: Global, opening: &[u64]) -> Result<Vec<Bounds>, AllocError>
     ensures { IfOk result (λ table. table.items ≡ opened opening.now) }
 {
@@ -73,7 +73,7 @@ fn open(alloc: Global, opening: &[u64]) -> Result<Vec<Bounds>, AllocError>
         .collect(alloc)
 }
 
-// The bounds as a lower and an upper table.
+// Returns the bounds as a lower and an upper table.
 fn parted(alloc: Global, table: &[Bounds]) -> Result<Sweep, AllocError>
     ensures lower { IfOk result (λ sweep. sweep.lower.items ≡ lowers table.now) }
     ensures upper { IfOk result (λ sweep. sweep.upper.items ≡ uppers table.now) }
@@ -83,8 +83,8 @@ fn parted(alloc: Global, table: &[Bounds]) -> Result<Sweep, AllocError>
     Ok(Sweep { lower, upper })
 }
 
-/// The steps, from one table to the other and back. A step that changes nothing is the last: so are all steps behind
-/// it.
+/// Takes the steps, from one table to the other and back. A step that changes nothing is the last: all steps after it
+/// would change nothing either.
 fn iterate<R: Threads + Sync, G: Gate + Sync>(
     rt: &R,
     question: &Question,
@@ -114,7 +114,7 @@ fn iterate<R: Threads + Sync, G: Gate + Sync>(
     table
 }
 
-/// The next table, by so many workers. Whether one of its entries is another than before.
+/// Fills the next table by `workers` workers. Returns whether one of its entries is not the same as before.
 fn step<R: Threads + Sync, G: Gate + Sync>(
     rt: &R,
     question: &Question,
@@ -134,7 +134,7 @@ fn step<R: Threads + Sync, G: Gate + Sync>(
     step_chunks(rt, tables, gate, size, 0, next)
 }
 
-/// How many workers a step after the first has: one, and one more for each so many edges.
+/// Returns how many workers a step after the first has: one, and one more for each `EDGES_FOR_A_WORKER` edges.
 fn busy_workers(question: &Question, workers: u32) -> u32
     requires { 1 ≤ workers }
     ensures some { 1 ≤ result }

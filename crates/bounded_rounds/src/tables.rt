@@ -1,11 +1,11 @@
-//! The table that a step reads.
+//! This module has the table that a step reads.
 
 ghost use Rattle.bounded_rounds.specs.inside.Parts.{IsBoundsTable};
 
 use fixed_bellman::Bounds;
 use game_model::Question;
 
-/// What every worker of a step reads: a question, and the bounds of its states.
+/// Every worker of a step reads a question, and the bounds of its states.
 #[derive(Clone, Copy)]
 pub struct Tables<'a> {
     pub question: &'a Question<'a>,

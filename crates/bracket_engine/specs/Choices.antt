@@ -1,4 +1,4 @@
--- The choices and the ranks of a bracket.
+-- These definitions are about the choices and the ranks of a bracket.
 use Rattle.std.specs.Prelude.{◌≡◌, ℕ, ◌<◌, ◌==◌, ◌||◌, true, List, length, slice_index, slice_index_or, Option, Some}
 use Rattle.std.specs.Prelude.{None, if◌then◌else◌}
 use Rattle.game_model.specs.declared.game.Side.TheVariants.{Min}
@@ -8,13 +8,15 @@ use Rattle.rank_certificate.specs.Layers.{AreLayered}
 use Rattle.step_core.specs.Word.{value_in, choice_in}
 use Rattle.step_core.specs.Events.{on_side}
 
--- the choice of a word, where a plan needs one
+-- A plan needs the choice of a word at a state of the maximiser that is neither goal nor dead, if the value is
+-- positive.
 abbrev pub choice_of_word : Query → ℕ → ℕ → Option ℕ
 choice_of_word q s word =
     if is_goal q s || is_dead q s then None else on_side (side_at q s)
     (if value_in word == 0 then None else Some (choice_in word)) None
 
--- a choice for each state, and none at a goal, a dead state, a state of the minimiser and one whose lower entry is 0
+-- Each state has an entry. It is none at a goal, a dead state, a state of the minimiser and a state whose lower entry
+-- is 0.
 pub record AreChoices (q : Query) (lower : List ℕ) (choices : List (Option ℕ)) : Type 0 where
   pub as_many : length choices ≡ states q
   pub none_at_goals : (s : ℕ) → s < states q → is_goal q s ≡ true → slice_index_or choices s None ≡ None
@@ -22,8 +24,8 @@ pub record AreChoices (q : Query) (lower : List ℕ) (choices : List (Option ℕ
   pub none_at_least : (s : ℕ) → s < states q → side_at q s ≡ Min → slice_index_or choices s None ≡ None
   pub none_at_zero : (s : ℕ) → s < states q → slice_index lower s ≡ 0 → slice_index_or choices s None ≡ None
 
--- the layered ranks of a lower table and choices; the maximiser who plays these reaches it, less any 1/m, within some
--- horizon
+-- The ranks are the layered ranks of a lower table and choices. The maximiser who plays these choices reaches the
+-- table, less any 1/m of the unit, within some horizon.
 pub record AreRanks (q : Query) (lower : List ℕ) (choices : List (Option ℕ)) (ranks : List ℕ) : Type 0 where
   pub ranked : Ranked q lower choices ranks
   pub layered : AreLayered q lower choices ranks

@@ -1,4 +1,4 @@
--- What a call of the engine finds.
+-- The engine finds a bracket and its strategies.
 use Rattle.std.specs.Prelude.{ℕ, Bool, List}
 use Rattle.game_model.specs.Query.{Query}
 use Rattle.formula_reader.specs.declared.formula.Bound.{Bound}
@@ -8,7 +8,8 @@ use Rattle.bracket_engine.specs.Lower.{IsLowerTable}
 use Rattle.bracket_engine.specs.Choices.{AreChoices, AreRanks}
 use Rattle.bracket_engine.specs.Replies.{AreRepliesTo}
 
--- a bracket of a question with this zero set, after at most so many rounds
+-- The result is a bracket of a question with this zero set, after at most the asked rounds, with its lower table,
+-- choices, ranks and replies.
 pub record IsFound (q : Query) (zero : List Bool) (bound : Bound) (initial : List ℕ) (asked : ℕ)
     (found : Bracket) : Type 0 where
   pub bounds : IsBracket q zero bound initial asked found.base.items found.upper.items found.rounds found.stable

@@ -1,4 +1,4 @@
-//! What both sides of a bracket are made over.
+//! This module has the base over which both sides of a bracket are made.
 
 ghost use Rattle.std.specs.Prelude.{◌≡◌, ◌≤◌, length, All};
 ghost use Rattle.game_model.specs.Limits.{unit};
@@ -8,7 +8,7 @@ ghost use Rattle.predecessors.specs.Lists.{ArePredecessors};
 use game_model::{Marks, Question};
 use predecessors::Predecessors;
 
-/// A question with its zero set and predecessors, and the lower bounds that its rounds reached.
+/// A base is a question with its zero set and predecessors, and the lower bounds that its rounds reached.
 #[derive(Clone, Copy)]
 pub struct Base<'a> {
     pub question: &'a Question<'a>,

@@ -1,4 +1,4 @@
-//! A question's zero set, and its bracket for a bound.
+//! A question gets its zero set, and then its bracket for a bound.
 
 ghost use Rattle.std.specs.Prelude.{◌≤◌, ◌<◌, All, IfOk};
 ghost use Rattle.game_model.specs.Query.{states};
@@ -19,17 +19,17 @@ use std::thread::Threads;
 use verdicts::{StopRule, settle};
 use zero_sets::zero_set_over;
 
-/// The zero set of a question, and a bracket over it.
+/// This is a bracket with the zero set that it is made over.
 #[derive(Drop)]
 pub struct Bracketed {
-    /// The states of value 0.
+    /// These are the states of value 0.
     pub zero: Marks,
-    /// The bracket.
+    /// This is the bracket.
     pub bracket: Bracket,
 }
 
-/// The zero set of a question, and the bracket of [`bracket_over`](crate::bracket_over), whose run may end where the
-/// bound is settled at each initial state. The only error is want of memory.
+/// Returns the zero set of a question, and the bracket of [`bracket_over`](crate::bracket_over) for a bound. The run
+/// may end when the bound is settled at each initial state. The only error is that memory ran out.
 pub fn bracket_for<R: Threads + Sync, G: Gate + Sync>(
     rt: &R,
     alloc: Global,

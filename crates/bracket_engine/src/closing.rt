@@ -1,4 +1,4 @@
-//! The bracket of a run that is over.
+//! This module makes the bracket after the races are over.
 
 ghost use Rattle.std.specs.Prelude.{◌≡◌, ◌↔◌, ◌≤◌, true, length, slice_index, All, IfOk};
 ghost use Rattle.game_model.specs.Query.{states};
@@ -22,8 +22,8 @@ use game_outside::{Gate, OutOfMemory};
 use std::alloc::Global;
 use std::thread::Threads;
 
-/// The bracket of two races that are over: the tables, and the strategies for them. The swapped question and the
-/// swapped words are let go once they are read.
+/// Makes the bracket of two races that are over: the tables, and the strategies for them. The swapped words and the
+/// swapped question are dropped after they are read.
 pub fn bracket_of<R: Threads + Sync, F: Fn(u64, u64) -> bool, G: Gate + Sync>(
     alloc: Global,
     made: &Rounds<'_, R, F, G>,
@@ -77,7 +77,7 @@ pub fn bracket_of<R: Threads + Sync, F: Fn(u64, u64) -> bool, G: Gate + Sync>(
     })
 }
 
-// Whether both tables are settled. They are where the last round changed nothing on either.
+// Returns whether the run is settled. If the last round changed nothing on either question, no table is tested.
 fn is_stable(
     question: &Question,
     swapped_question: &Question,

@@ -1,4 +1,4 @@
-//! Laws of brackets.
+//! This module has the laws of brackets.
 
 ghost use Rattle.std.specs.Prelude.{◌≡◌, ℕ, List, Bool, Option, true};
 ghost use Rattle.game_model.specs.Query.{Query};
@@ -11,13 +11,12 @@ ghost use Rattle.bracket_engine.specs.Lower.{IsLowerTable};
 use crate::run::MOST_ROUNDS;
 use lower_guess::laws::one_lower_table;
 
-/// The constant is the number of the definitions.
+/// The constant is equal to the number in `specs/Limits.antt`.
 pub fn limits()
     ensures { MOST_ROUNDS ≡ most_rounds }
 {}
 
-/// Two runs of one question that settle have the same base, whatever their schedules, their numbers of workers
-/// and the rounds that were asked for.
+/// Two runs of one question that settle have the same base, for all schedules, numbers of workers and asked rounds.
 pub fn settled_bases_agree()
     ensures { (q : Query) (zero other_zero : List Bool) (bound other_bound : Bound) (initial other_initial : List ℕ)
         (asked other_asked : ℕ) (base upper other other_upper : List ℕ) (rounds other_rounds : ℕ)
@@ -36,8 +35,8 @@ pub fn lower_tables_agree()
     one_lower_table();
 }
 
-/// Two runs of one question that settle have the same upper bounds, whatever their schedules, their numbers of workers
-/// and the rounds that were asked for, where both ask for a value.
+/// Two runs of one question that settle and both ask for a value have the same upper bounds, for all schedules, numbers
+/// of workers and asked rounds.
 pub fn settled_upper_bounds_agree()
     ensures { (q : Query) (zero : List Bool) (bound other_bound : Bound) (initial other_initial : List ℕ)
         (asked other_asked : ℕ) (base upper other_base other : List ℕ) (rounds other_rounds : ℕ)

@@ -1,4 +1,4 @@
-//! The lower side of a bracket: the lower table, the maximiser's choices, and the ranks.
+//! This module makes the lower side of a bracket: the lower table, the maximiser's choices, and the ranks.
 
 ghost use Rattle.std.specs.Prelude.{◌≡◌, IfOk};
 ghost use Rattle.game_model.specs.Dual.{IsZeroSet};
@@ -14,8 +14,8 @@ use rank_certificate::laws::ranks_reach;
 use std::alloc::Global;
 use value_words::Words;
 
-/// The lower guess of the base, the values of these words, with the maximiser's choices and ranks that vouch for it.
-/// Where no guess is accepted, the choices are those that the words name. The words are let go once these are read.
+/// Makes the lower guess of the base, which has the values of these words, and the maximiser's choices and ranks that
+/// prove it. If no guess is accepted, the choices are those of the words. The words are dropped after these are read.
 pub fn lower_side(alloc: Global, base: &Base<'_>, words: Words) -> Result<LowerGuess, OutOfMemory>
     requires zero { IsZeroSet base.now.question.now base.now.zero.now }
     requires sound { AreSoundWords base.now.question.now words }

@@ -1,4 +1,4 @@
-//! Two races at once: rounds on the words of a question, and on those of the swapped one.
+//! Two races run in turn: rounds on the words of a question, and on those of the swapped question.
 
 ghost use Rattle.std.specs.Prelude.{◌≡◌, IfOk};
 ghost use Rattle.game_model.specs.Dual.{IsZeroSet};
@@ -16,22 +16,22 @@ use std::thread::Threads;
 use upper_guess::Witnesses;
 use value_words::{Posing, Words};
 
-/// The closed words of two races, and how their rounds ended.
+/// These are the closed words of two races, and how their rounds ended.
 #[derive(Drop)]
 pub struct Raced {
-    /// The words of the question.
+    /// These are the words of the question.
     pub words: Words,
-    /// The words of the swapped question.
+    /// These are the words of the swapped question.
     pub swapped_words: Words,
-    /// How many rounds were completed on each.
+    /// This many rounds were completed on each.
     pub rounds: u32,
-    /// Whether the last one changed nothing on either.
+    /// This says whether the last round changed nothing on either.
     pub quiet: bool,
-    /// The guess that settled the threshold, where one did.
+    /// This is the guess that settled the threshold, if one did.
     pub kept: Option<SettlingGuess>,
 }
 
-/// Two races whose words are not closed yet, and how their rounds ended.
+/// The words of these two races are not closed yet, but their rounds have ended.
 #[derive(Drop)]
 pub struct Racers<'q, 's, P: Posing, C: Posing> {
     pub lower: Runner<'q, P>,
@@ -41,8 +41,9 @@ pub struct Racers<'q, 's, P: Posing, C: Posing> {
     pub kept: Option<SettlingGuess>,
 }
 
-/// Makes rounds on the words of both questions. They end before the most where one changed nothing on either: then the
-/// words of both are settled; or where a guess settles the threshold at each initial state.
+/// Makes at most `rounds.most` rounds on the words of both questions. The rounds end early after one that changed
+/// nothing on either, which shows that the words of both are settled, or when a guess settles the threshold at each
+/// initial state.
 pub fn race<
     R: Threads + Sync,
     P: Posing + Send + Sync,
@@ -72,7 +73,7 @@ pub fn race<
     })
 }
 
-// Rounds on both until one changes nothing on either or the threshold is settled.
+// Makes at most `rounds.most` rounds on both, until one changes nothing on either or a guess settles the threshold.
 fn run_rounds<
     'q,
     's,

@@ -1,4 +1,4 @@
-//! How the rounds of two races are made.
+//! The rounds of two races share what they are made with.
 
 ghost use Rattle.std.specs.Prelude.{◌≤◌};
 ghost use Rattle.round_workers.specs.Share.{most_workers};
@@ -8,18 +8,18 @@ use crate::team::Team;
 use game_outside::Gate;
 use std::thread::Threads;
 
-/// What stays the same from one round to the next.
+/// These things stay the same from one round to the next.
 #[derive(Drop)]
 pub struct Rounds<'a, R: Threads + Sync, F: Fn(u64, u64) -> bool, G: Gate + Sync> {
-    /// The team that fills the tables of a guess.
+    /// The team fills the tables of a guess.
     pub team: &'a Team<'a, R>,
-    /// The question, and what may end its run.
+    /// This is the question, with what may end its run.
     pub ending: &'a Ending<'a, F>,
-    /// The most rounds.
+    /// At most this many rounds are made.
     pub most: u32,
-    /// The most workers of a round.
+    /// A round has at most this many workers.
     pub workers: u32,
-    /// What a worker passes before each state.
+    /// A worker passes this gate before each state.
     pub gate: &'a G,
     ghost some: { 1 ≤ workers },
     ghost few: { workers ≤ most_workers },

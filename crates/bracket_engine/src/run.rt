@@ -1,4 +1,4 @@
-//! The run of rounds.
+//! This module runs the rounds of a question.
 
 ghost use Rattle.std.specs.Prelude.{◌≡◌, ◌≤◌, ◌<◌, All, IfOk};
 ghost use Rattle.game_model.specs.Query.{states};
@@ -25,17 +25,20 @@ use std::marker::Brand;
 use std::thread::Threads;
 use verdicts::StopRule;
 
-/// The most rounds that may be asked for.
+/// At most this many rounds may be asked for.
 pub const MOST_ROUNDS: u32 = 1_000_000;
 
-/// The bracket after at most this many rounds, each of at most so many workers, who pass the gate before each
-/// state. A round is one on the lower table and then one on the swapped values, which are lower bounds of the
-/// swapped question. The run ends before where both are settled, or where after 1, 2, 4, 8 and so on rounds the lower
-/// bounds and the lesser of a guess over them and of the unit less the swapped values settle the rule at each initial
-/// state. At the end the base is the last lower table, and the lower table is its lower guess: a value that is met in
-/// the limit alone, which no number of rounds reaches, is found by it. The upper table is the least of the unit less
-/// the swapped values, of the guess over the base and of the one that ended the run. The marks are the question's zero
-/// set. The only error is want of memory.
+/// Returns the bracket after at most `rounds` rounds. Each round has at most `workers` workers, who pass the gate
+/// before each state. The marks are the question's zero set. The only error is that memory ran out.
+///
+/// A round updates the lower table and then the swapped values, which are lower bounds of the swapped question. The run
+/// ends early if both are settled. After 1, 2, 4, 8 and so on rounds a guess is made over the lower bounds. The run
+/// ends if two bounds settle the rule at each initial state: the lower bound, and the lesser of the guess and of the
+/// unit less the swapped value.
+///
+/// The base is the last lower table. The lower table is the lower guess of the base, which can find a value that only
+/// the limit reaches, and no number of rounds. The upper table is the least of the unit less the swapped values, of the
+/// guess over the base, and of the guess that ended the run, if any.
 pub fn bracket<R: Threads + Sync, F: Fn(u64, u64) -> bool, G: Gate + Sync>(
     rt: &R,
     alloc: Global,
@@ -70,8 +73,8 @@ pub fn bracket<R: Threads + Sync, F: Fn(u64, u64) -> bool, G: Gate + Sync>(
     )
 }
 
-/// The bracket of [`bracket`], over the predecessors in the question's game, for a caller that has these lists. The
-/// only error is want of memory.
+/// Returns the bracket of [`bracket`] for a caller that has the lists of predecessors of the question's game. The only
+/// error is that memory ran out.
 pub fn bracket_over<R: Threads + Sync, F: Fn(u64, u64) -> bool, G: Gate + Sync>(
     rt: &R,
     alloc: Global,

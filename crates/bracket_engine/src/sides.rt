@@ -1,4 +1,4 @@
-//! The two sides of a bracket, made at once where there are several workers.
+//! The two sides of a bracket are made at once if there are several workers.
 
 ghost use Rattle.std.specs.Prelude.{◌≡◌, slice_index, IfOk};
 ghost use Rattle.std.specs.Thread.{IsSync};
@@ -19,8 +19,9 @@ use std::alloc::Global;
 use std::thread::{Threads, join};
 use value_words::Words;
 
-/// Both sides over a base, the values of these words. Where the team has several workers, one of them makes the lower
-/// side while the others make the upper one. One worker makes one after the other, and costs no thread.
+/// Makes both sides over a base, which has the values of these words. If the team has several workers, one of them
+/// makes the lower side while the others make the upper side. One worker makes the two sides in turn, and needs no
+/// thread.
 pub fn both_sides<R: Threads + Sync>(
     team: &Team<'_, R>,
     alloc: Global,
@@ -61,7 +62,7 @@ pub fn both_sides<R: Threads + Sync>(
     Ok((lower, upper))
 }
 
-/// What one thread is to make.
+/// A job is what one thread makes.
 trait Job {
     type Made;
 
@@ -74,7 +75,7 @@ trait Job {
         ensures { gives self result };
 }
 
-/// Two jobs at once: the first in another thread, where one can be made.
+/// Runs two jobs at once: the first runs in another thread, if one can be made.
 fn run_both<R: Threads, S: Job<Made = A> + Send + Drop, T: Job<Made = B> + Drop, A: Send, B>(
     rt: &R,
     one: S,
@@ -96,7 +97,7 @@ fn run_both<R: Threads, S: Job<Made = A> + Send + Drop, T: Job<Made = B> + Drop,
     )
 }
 
-/// The lower side, to be made.
+/// This job makes the lower side.
 #[derive(Drop)]
 struct LowerJob<'a> {
     alloc: Global,
@@ -119,7 +120,7 @@ impl Job for LowerJob<'_> {
     }
 }
 
-/// The upper side, to be made.
+/// This job makes the upper side.
 #[derive(Drop)]
 struct UpperJob<'a, R: Threads + Sync> {
     team: &'a Team<'a, R>,

@@ -1,4 +1,4 @@
-//! What may end a run before its rounds.
+//! A guess may end a run before the asked rounds.
 
 ghost use Rattle.std.specs.Prelude.{◌≡◌, ◌≤◌, ◌<◌, length, All};
 ghost use Rattle.game_model.specs.Query.{IsQuery, states};
@@ -15,16 +15,17 @@ use std::thread::Threads;
 use upper_guess::{Witnesses, guess_with};
 use verdicts::StopRule;
 
-/// The guess that ended a run, and the lower bounds that it is over.
+/// This is the guess that ended a run, with the lower bounds that it was made over.
 #[derive(Drop)]
 pub struct SettlingGuess {
-    /// The lower bounds, by state.
+    /// Each state has a lower bound.
     pub lower: Vec<u64>,
-    /// The guess, by state.
+    /// Each state has an entry of the guess.
     pub guess: Vec<u64>,
 }
 
-/// A question with its zero set and predecessors, and what may end its run: a rule that is asked at initial states.
+/// This is a question with its zero set and predecessors, and what may end its run: a rule that is asked at initial
+/// states.
 #[derive(Drop)]
 pub struct Ending<'a, F: Fn(u64, u64) -> bool> {
     pub question: &'a Question<'a>,
@@ -45,9 +46,10 @@ impl<F: Fn(u64, u64) -> bool> Ending<'_, F> {
     ghost use Rattle.verdicts.specs.Stop.{bound_of, IsStopRule};
     ghost use Rattle.bracket_engine.specs.Stop.{AreSettledAt, upper_from, IsSettlingGuess};
 
-    /// The guess over lower bounds, after 1, 2, 4, 8 and so on rounds, where with the swapped values it settles the
-    /// threshold at each initial state; there is one after such a round where the values alone settle it. None is made
-    /// where the bound asks for a value, since no rule could use it. The team fills its tables.
+    /// After 1, 2, 4, 8 and so on rounds, returns the guess over the lower bounds if the guess and the swapped values
+    /// settle the threshold at each initial state. It returns one after such a round if the lower bounds and the
+    /// swapped values settle the threshold without it. If the bound asks for a value, it makes no guess, since no rule
+    /// could use it. The team fills the tables of the guess.
     pub fn asked_after<R: Threads + Sync>(
         &self,
         team: &Team<'_, R>,
@@ -79,7 +81,8 @@ impl<F: Fn(u64, u64) -> bool> Ending<'_, F> {
         self.settling_guess(team, alloc, lower, swapped_values, witnesses)
     }
 
-    /// The guess over lower bounds, where with the swapped values it settles the threshold at each initial state.
+    /// Returns the guess over the lower bounds if the guess and the swapped values settle the threshold at each initial
+    /// state.
     fn settling_guess<R: Threads + Sync>(
         &self,
         team: &Team<'_, R>,
@@ -110,7 +113,8 @@ impl<F: Fn(u64, u64) -> bool> Ending<'_, F> {
         Ok(Some(SettlingGuess { lower, guess }))
     }
 
-    /// Whether the rule says yes at each initial state, to the lower bound and to the lesser of the two upper ones.
+    /// Returns whether the rule says yes at each initial state, to the lower bound and the lesser of the two upper
+    /// bounds.
     fn settles(&self, lower: &[u64], swapped_values: &[u64], guess: &[u64]) -> bool
         requires rule { IsStopRule F.Fn self.now.rule.now }
         requires lower { length lower.now ≡ states self.now.question.now }

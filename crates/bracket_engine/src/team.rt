@@ -1,5 +1,5 @@
-//! Workers who fill tables together, each the entries of some states in a row. Nothing is said of which worker runs
-//! when, nor that two of them run at once.
+//! Workers fill tables together: each fills the entries of a run of successive states. Nothing is said about which
+//! worker runs when, nor that two of them run at once.
 
 ghost use Rattle.std.specs.Prelude.{◌≤◌};
 ghost use Rattle.std.specs.Thread.{IsSync};
@@ -8,19 +8,19 @@ use game_model::Question;
 use std::thread::{Threads, for_each_chunk_mut};
 use upper_guess::{UpTables, fill_part};
 
-/// Workers who fill the up step of a table together. Where they are W, a part has the number of states over W, rounded
-/// up, and worker w the part from w times so many on; the last ones may have none.
+/// These workers fill the up step of a table together. If there are W of them, a part has the number of states over W,
+/// rounded up. Worker w fills part w, counted from 0. The last workers may have none.
 #[derive(Drop)]
 pub struct Team<'a, R: Threads + Sync> {
-    /// What starts their threads.
+    /// This starts their threads.
     pub rt: &'a R,
-    /// How many they are.
+    /// There are this many workers.
     pub workers: u32,
     ghost some: { 1 ≤ workers },
 }
 
 impl<R: Threads + Sync> UpTables for Team<'_, R> {
-    // They share what starts threads.
+    // The workers share what starts threads.
     ghost can_fill = { IsSync R.row };
 
     fn fill(&self, question: &Question, table: &[u64], next: &mut [u64]) {

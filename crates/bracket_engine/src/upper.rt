@@ -1,4 +1,4 @@
-//! The upper side of a bracket: the upper table, and the minimiser's replies to it.
+//! This module makes the upper side of a bracket: the upper table, and the minimiser's replies to it.
 
 ghost use Rattle.std.specs.Prelude.{slice_index, IfOk};
 ghost use Rattle.game_model.specs.Dual.{IsZeroSet};
@@ -15,17 +15,17 @@ use std::alloc::Global;
 use std::thread::Threads;
 use upper_guess::{Witnesses, guess_with};
 
-/// An upper table, and the minimiser's replies to it.
+/// This is an upper table with the minimiser's replies to it.
 #[derive(Drop)]
 pub struct UpperSide {
-    /// The table, by state.
+    /// The table has an upper bound for each state.
     pub table: Vec<u64>,
-    /// The minimiser's choice, for each of its states that is neither goal nor dead.
+    /// The minimiser has a choice for each of its states that is neither goal nor dead.
     pub replies: Vec<Option<u32>>,
 }
 
-/// The upper table, whose guess is over the base, and the replies to it. The team fills the tables of the guess. The
-/// swapped values are let go once they are read.
+/// Makes the upper table, whose guess is over the base, and the replies to it. The team fills the tables of the guess.
+/// The swapped values are dropped after they are read.
 pub fn upper_side<R: Threads + Sync>(
     team: &Team<'_, R>,
     alloc: Global,
@@ -43,7 +43,8 @@ pub fn upper_side<R: Threads + Sync>(
     Ok(UpperSide { table, replies })
 }
 
-// The least of the unit less the swapped values, of the guess over the base, and of the one that was kept, if any.
+// Returns the least of the unit less the swapped values, of the guess over the base, and of the guess that was kept, if
+// any.
 fn upper_table<R: Threads + Sync>(
     team: &Team<'_, R>,
     alloc: Global,
@@ -62,8 +63,8 @@ fn upper_table<R: Threads + Sync>(
     lesser(alloc, &unlost, &guessed)
 }
 
-// The guess over the base; where another one was kept, the lesser of the two. Over the same lower bounds that one is
-// the guess.
+// Returns the guess over the base, or the lesser of it and the guess that was kept, if any. If both are over the same
+// lower bounds, they are the same guess.
 fn least_guess<R: Threads + Sync>(
     team: &Team<'_, R>,
     alloc: Global,

@@ -1,10 +1,10 @@
--- The units of certificates of the first version, in which probability 1 is ten to the twelfth.
+-- In the units of certificates of the first version, probability 1 is ten to the twelfth.
 use Rattle.std.specs.Prelude.{ℕ, ◌*◌, List, map}
 
--- probability 1, in the units of the first version: twelve decimal places of a probability are whole numbers
+-- This many units of the first version are probability 1: twelve decimal places of a probability are whole numbers.
 abbrev pub old_unit : ℕ
 old_unit = 1000000000000
 
--- a table of old units, as it is read: in units
+-- A table of old units is read in units: each value becomes a thousandfold.
 abbrev pub thousandfold : List ℕ → List ℕ
 thousandfold table = map (λ value. 1000 * value) table

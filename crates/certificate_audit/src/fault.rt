@@ -1,18 +1,18 @@
-//! Why a certificate is refused.
+//! This module has the faults for which a certificate is refused.
 
 use inductive_check::UpperFault;
 use plan_text::PlanFault;
 use rank_certificate::RankFault;
 
-/// Why a certificate is refused: the first fault of its text, of its upper table or replies, or of its lower table,
+/// A certificate is refused for the first fault of its text, of its upper table or replies, or of its lower table,
 /// choices and ranks.
 #[derive(Clone, Copy, Debug, PartialEq, Eq)]
 pub enum AuditFault {
-    /// The text has no certificate of the question's states, or memory was wanting.
+    /// The text has no certificate of the question's states, or memory ran out.
     Text(PlanFault),
     /// The upper table is not inductive, or a reply is not held to it.
     Upper(UpperFault),
-    /// The upper table and the replies pass, but the lower table, the choices and the ranks do not go together.
+    /// The upper table and the replies pass, but the choices and the ranks do not prove the lower table.
     Ranks(RankFault),
 }
 

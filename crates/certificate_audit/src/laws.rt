@@ -1,4 +1,4 @@
-//! Laws of audits. No function here does anything: its contract is the law.
+//! This module has the laws of audits. Each function does nothing: its contract is the law.
 
 ghost use Rattle.std.specs.Prelude.{◌≡◌, ◌≤◌, ◌↔◌, ℕ, List, Option, All, length, slice_index};
 ghost use Rattle.game_model.specs.Limits.{unit};
@@ -28,8 +28,8 @@ pub fn audits_have_one_answer()
         → entries_of plan ≡ entries_of other }
 {}
 
-/// In a certificate of the first version a million times a million units are probability 1. It passes in those units
-/// exactly where it passes as it is read, with each value a thousandfold.
+/// In a certificate of the first version, 10^12 units are probability 1. The certificate passes in those units exactly
+/// if it passes as it is read, with each value a thousandfold.
 pub fn old_certificates_mean_what_they_meant()
     ensures lengths { (table : List ℕ) → length (thousandfold table) ≡ length table }
     ensures upper { (q : Query) (upper : List ℕ) → IsQuery q →

@@ -1,4 +1,4 @@
-//! Whether a plan passes.
+//! This module checks whether a plan passes.
 
 ghost use Rattle.std.specs.Prelude.{◌≤◌, slice_index, All, IfErr, OnOk};
 ghost use Rattle.game_model.specs.Query.{states};
@@ -17,7 +17,8 @@ use inductive_check::{UpperFault, check_replies, check_upper};
 use plan_text::Plan;
 use rank_certificate::check_ranks;
 
-/// Checks a plan: its upper table, then the replies, then the lower table with choices and ranks. Else the first fault.
+/// Checks a plan: its upper table, then the replies, then the lower table with choices and ranks. The error is the
+/// first fault.
 pub fn check_plan(question: &Question, plan: &Plan) -> Result<(), AuditFault>
     requires { HasStates plan.now (states question.now) }
     ensures passes { OnOk result (Passes question.now plan.now) }

@@ -1,4 +1,4 @@
--- The words of a command line.
+-- These definitions say what the words of a command line denote.
 use Rattle.std.specs.Prelude.{◌≡◌, ◌<◌, ◌≤◌, ◌↔◌, ℕ, Bool, IsTrue, List, [], ◌∷◌, length, codes, Option, Some, None}
 use Rattle.std.specs.Prelude.{option_map}
 use Rattle.std.specs.Str.Parse.{IsNumeral, digits_value, without_leading_plus}
@@ -14,16 +14,16 @@ use Rattle.command_words.specs.declared.words.MakeWords.{MakeWords}
 use Rattle.command_words.specs.declared.words.CommandWords.{CommandWords}
 use Rattle.command_words.specs.declared.words.CommandWords.TheVariants as variant
 
--- What words say, by name.
+-- These definitions are what the words of each command say, by name.
 
--- the words that ask a question: its files and its formula
+-- The words that ask a question are its files and its formula.
 pub record Asked : Type 0 where
   pub tra : List ℕ
   pub lab : List ℕ
   pub formula : List ℕ
   pub own : Option (List ℕ)
 
--- the words of `check`
+-- These are the words of `check`.
 pub record Check : Type 0 where
   pub asked : Asked
   pub rounds : ℕ
@@ -31,25 +31,25 @@ pub record Check : Type 0 where
   pub plan : Bool
   pub traps : Bool
 
--- the words of `audit`
+-- These are the words of `audit`.
 pub record Audit : Type 0 where
   pub asked : Asked
   pub certificate : List ℕ
 
--- the words of `solve`: a file of values to begin with, where one is named
+-- The words of `solve` have a file of values to begin with, if one is named.
 pub record Solve : Type 0 where
   pub asked : Asked
   pub values : Option (List ℕ)
   pub plan : Bool
 
--- the words of `make`: the seed of a game, and how many states it is to have
+-- The words of `make` have the seed of a game, and how many states it is to have.
 pub record Make : Type 0 where
   pub seed : ℕ
   pub states : ℕ
   pub rounds : ℕ
   pub workers : ℕ
 
--- one of the five commands, with what its words say
+-- This is one of the five commands, with what its words say.
 pub data Command : Type 0 where
   OfCheck : (check : Check) → Command
   OfAudit : (audit : Audit) → Command
@@ -57,17 +57,17 @@ pub data Command : Type 0 where
   OfMake : (make : Make) → Command
   OfSure : (asked : Asked) → Command
 
--- 0 to 1,000,000 rounds and 1 to 64 workers
+-- There are 0 to 1,000,000 rounds and 1 to 64 workers.
 pub record AreRunLimits (rounds workers : ℕ) : Type 0 where
   pub few_rounds : rounds ≤ most_rounds
   pub some_workers : 1 ≤ workers
   pub few_workers : workers ≤ most_workers
 
--- the numbers of `check` are in their ranges
+-- The numbers of `check` are in their ranges.
 abbrev pub AreInRange : Check → Type 0
 AreInRange check = AreRunLimits check.rounds check.workers
 
--- the numbers of `make` are in their ranges: a seed from 1 to 2147483646, and 3 to 1,000,000 states
+-- The numbers of `make` are in their ranges: a seed from 1 to 2147483646, and 3 to 1,000,000 states.
 pub record IsMakeInRange (make : Make) : Type 0 where
   pub some_seed : 1 ≤ make.seed
   pub low_seed : make.seed ≤ most_seed
@@ -75,35 +75,35 @@ pub record IsMakeInRange (make : Make) : Type 0 where
   pub few_states : make.states ≤ most_states
   pub limits : AreRunLimits make.rounds make.workers
 
--- What the values of names say.
+-- These definitions say when the values of names say this.
 
--- a value is given, and it is the name of a file: it is not empty
+-- A value is given, and it is the name of a file: it is not empty.
 pub record NamesFile (value : Option Text) (file : List ℕ) : Type 0 where
   pub given : value ≡ Some file
   pub named : 0 < length file
 
--- a file that is given has a name
+-- A file that is given has a name.
 abbrev pub IsNamedWhereGiven : Option (List ℕ) → Type 0
 IsNamedWhereGiven None = Unit {0}
 IsNamedWhereGiven (Some file) = 0 < length file
 
--- the word spells the number as Rust reads one: digits, with a plus sign before them or none
+-- The word spells the number as Rust reads one: digits, with or without a plus sign before them.
 pub record Spells (word : List ℕ) (n : ℕ) : Type 0 where
   pub digits : IsNumeral 10 (without_leading_plus word)
   pub value : n ≡ digits_value 10 (without_leading_plus word)
 
--- a value is given, and its word spells the number
+-- A value is given, and its word spells the number.
 pub record GivesNumber (value : Option Text) (n : ℕ) : Type 0 where
   pub word : List ℕ
   pub given : value ≡ Some word
   pub spelled : Spells word n
 
--- what the word of an option spells, or the default where it is not given
+-- This is the number that the word of an option spells, or the default if it is not given.
 abbrev pub IsNumber : ℕ → Option (List ℕ) → ℕ → Type 0
 IsNumber default None n = n ≡ default
 IsNumber default (Some word) n = Spells word n
 
--- the values of the names ask this; an empty formula is one, too
+-- The values of the names ask this. An empty formula is a formula.
 pub record SayAsked (value : Text → Option Text) (asked : Asked) : Type 0 where
   pub tra : NamesFile (value (codes "tra")) asked.tra
   pub lab : NamesFile (value (codes "lab")) asked.lab
@@ -111,68 +111,68 @@ pub record SayAsked (value : Text → Option Text) (asked : Asked) : Type 0 wher
   pub own : asked.own ≡ value (codes "own")
   pub own_named : IsNamedWhereGiven asked.own
 
--- the values of the names say how far a run goes: 10,000 rounds and 4 workers where no word says them
+-- The values of the names say how far a run goes: 10,000 rounds and 4 workers if no word says them.
 pub record SayRunLimits (value : Text → Option Text) (rounds workers : ℕ) : Type 0 where
   pub of_rounds : IsNumber default_rounds (value (codes "rounds")) rounds
   pub of_workers : IsNumber default_workers (value (codes "workers")) workers
 
--- the values of the names say this of `check`
+-- The values of the names say this of `check`.
 pub record SayCheck (value : Text → Option Text) (check : Check) : Type 0 where
   pub asked : SayAsked value check.asked
   pub limits : SayRunLimits value check.rounds check.workers
   pub plan : IsTrue check.plan ↔ (value (codes "plan") ≡ Some (codes "true"))
   pub traps : IsTrue check.traps ↔ (value (codes "traps") ≡ Some (codes "true"))
 
--- the values of the names say this of `audit`
+-- The values of the names say this of `audit`.
 pub record SayAudit (value : Text → Option Text) (audit : Audit) : Type 0 where
   pub asked : SayAsked value audit.asked
   pub certificate : NamesFile (value (codes "certificate")) audit.certificate
 
--- the values of the names say this of `solve`
+-- The values of the names say this of `solve`.
 pub record SaySolve (value : Text → Option Text) (solve : Solve) : Type 0 where
   pub asked : SayAsked value solve.asked
   pub values : solve.values ≡ value (codes "values")
   pub values_named : IsNamedWhereGiven solve.values
   pub plan : IsTrue solve.plan ↔ (value (codes "plan") ≡ Some (codes "true"))
 
--- the values of the names say this of `make`
+-- The values of the names say this of `make`.
 pub record SayMake (value : Text → Option Text) (make : Make) : Type 0 where
   pub seed : GivesNumber (value (codes "seed")) make.seed
   pub states : GivesNumber (value (codes "states")) make.states
   pub limits : SayRunLimits value make.rounds make.workers
 
--- What words denote.
+-- These definitions say when words denote a command.
 
--- the words behind `check` denote this: `clap` has no fault to find in them, and the values that it gives them say it.
--- So options may stand anywhere, each once at most, with the value in the next word or behind `=`; behind `--` no word
--- is an option; three words are left; and each number is one of 32 bits, in its range
+-- The words after `check` denote this: `clap` has no fault to find in them, and the values that it gives them say it.
+-- So options may be anywhere, each once at most, with the value in the next word or after `=`. After `--` no word is an
+-- option. Three words are left, and each number has 32 bits and is in its range.
 pub record AreCheckWords (words : List Text) (check : Check) : Type 0 where
   pub taken : fault_of check_app words ≡ []
   pub said : SayCheck (value_of check_app words) check
   pub in_range : AreInRange check
 
--- the words behind `audit` denote this, in the same way; four words are left, and the owner file is the only option
+-- The words after `audit` denote this, in the same way. Four words are left, and the owner file is the only option.
 pub record AreAuditWords (words : List Text) (audit : Audit) : Type 0 where
   pub taken : fault_of audit_app words ≡ []
   pub said : SayAudit (value_of audit_app words) audit
 
--- the words behind `solve` denote this, in the same way; three words are left
+-- The words after `solve` denote this, in the same way. Three words are left.
 pub record AreSolveWords (words : List Text) (solve : Solve) : Type 0 where
   pub taken : fault_of solve_app words ≡ []
   pub said : SaySolve (value_of solve_app words) solve
 
--- the words behind `make` denote this, in the same way; two words are left, which are numbers in their ranges as well
+-- The words after `make` denote this, in the same way. Two words are left, which are also numbers in their ranges.
 pub record AreMakeWords (words : List Text) (make : Make) : Type 0 where
   pub taken : fault_of make_app words ≡ []
   pub said : SayMake (value_of make_app words) make
   pub in_range : IsMakeInRange make
 
--- the words behind `sure` denote this, in the same way; three words are left, and the owner file is the only option
+-- The words after `sure` denote this, in the same way. Three words are left, and the owner file is the only option.
 pub record AreSureWords (words : List Text) (asked : Asked) : Type 0 where
   pub taken : fault_of sure_app words ≡ []
   pub said : SayAsked (value_of sure_app words) asked
 
--- the word that names a command
+-- This word names a command.
 abbrev pub name_of : Command → Text
 name_of (OfCheck check) = codes "check"
 name_of (OfAudit audit) = codes "audit"
@@ -180,7 +180,7 @@ name_of (OfSolve solve) = codes "solve"
 name_of (OfMake make) = codes "make"
 name_of (OfSure asked) = codes "sure"
 
--- the words behind the name of a command denote it
+-- The words after the name of a command denote it.
 abbrev pub AreWordsOf : Command → List Text → Type 0
 AreWordsOf (OfCheck check) words = AreCheckWords words check
 AreWordsOf (OfAudit audit) words = AreAuditWords words audit
@@ -188,23 +188,23 @@ AreWordsOf (OfSolve solve) words = AreSolveWords words solve
 AreWordsOf (OfMake make) words = AreMakeWords words make
 AreWordsOf (OfSure asked) words = AreSureWords words asked
 
--- these words denote this command: the first names it, and the others are its words
+-- These words denote this command: the first names it, and the others are its words.
 pub record AreCommand (words : List Text) (command : Command) : Type 0 where
   pub rest : List Text
   pub words_are : words ≡ name_of command ∷ rest
   pub behind : AreWordsOf command rest
 
--- these words denote a command
+-- These words denote a command.
 abbrev pub DenoteCommand : List Text → Type 0
 DenoteCommand words = (command : Command) × AreCommand words command
 
--- these words denote no command
+-- These words denote no command.
 abbrev pub AreNoCommand : List Text → Type 0
 AreNoCommand words = (command : Command) → AreCommand words command → ⊥
 
--- What contracts see of words that were read.
+-- These definitions are what contracts see of words that were read.
 
--- what contracts see of the words that ask a question
+-- Contracts see this of the words that ask a question.
 abbrev pub asked_of_words : AskedWords → Asked
 asked_of_words words = record {
   tra = words.tra.now;
@@ -213,7 +213,7 @@ asked_of_words words = record {
   own = option_map (λ file. file.now) words.own;
 }
 
--- what contracts see of the words of `check`
+-- Contracts see this of the words of `check`.
 abbrev pub check_of : CheckWords → Check
 check_of words = record {
   asked = asked_of_words words.asked;
@@ -223,11 +223,11 @@ check_of words = record {
   traps = words.traps;
 }
 
--- what contracts see of the words of `audit`
+-- Contracts see this of the words of `audit`.
 abbrev pub audit_of : AuditWords → Audit
 audit_of words = record { asked = asked_of_words words.asked; certificate = words.certificate.now }
 
--- what contracts see of the words of `solve`
+-- Contracts see this of the words of `solve`.
 abbrev pub solve_of : SolveWords → Solve
 solve_of words = record {
   asked = asked_of_words words.asked;
@@ -235,11 +235,11 @@ solve_of words = record {
   plan = words.plan;
 }
 
--- what contracts see of the words of `make`
+-- Contracts see this of the words of `make`.
 abbrev pub make_of : MakeWords → Make
 make_of words = record { seed = words.seed; states = words.states; rounds = words.rounds; workers = words.workers }
 
--- what contracts see of the words of a command
+-- Contracts see this of the words of a command.
 abbrev pub command_of : CommandWords → Command
 command_of (variant.Check check) = OfCheck (check_of check)
 command_of (variant.Audit audit) = OfAudit (audit_of audit)

@@ -1,4 +1,4 @@
-//! The words behind the name of a command, as `clap` reads them.
+//! This module says how `clap` reads the words after the name of a command.
 
 ghost use Rattle.std.specs.Prelude.{◌≡◌, false, IfOk, codes};
 ghost use Rattle.clap.specs.Words.{app_of, rule_of};
@@ -9,7 +9,7 @@ use crate::limits::{LEAST_STATES, MOST_ROUNDS, MOST_SEED, MOST_STATES, MOST_WORK
 use clap::{Arg, ArgAction, Command};
 use std::alloc::{AllocError, Global};
 
-/// The command `check`, whose first word is read already.
+/// Makes the command `check`, whose first word is read already.
 pub fn check_command<'a>(alloc: Global) -> Result<Command<'a>, AllocError>
     ensures { IfOk result (λ command. app_of command ≡ check_app) }
 {
@@ -18,14 +18,14 @@ pub fn check_command<'a>(alloc: Global) -> Result<Command<'a>, AllocError>
         .arg(flag(alloc, "traps"))
 }
 
-/// The command `audit`, whose first word is read already.
+/// Makes the command `audit`, whose first word is read already.
 pub fn audit_command<'a>(alloc: Global) -> Result<Command<'a>, AllocError>
     ensures { IfOk result (λ command. app_of command ≡ audit_app) }
 {
     asked_command(alloc, "audit")?.arg(positional(alloc, "certificate"))
 }
 
-/// The command `solve`, whose first word is read already.
+/// Makes the command `solve`, whose first word is read already.
 pub fn solve_command<'a>(alloc: Global) -> Result<Command<'a>, AllocError>
     ensures { IfOk result (λ command. app_of command ≡ solve_app) }
 {
@@ -34,14 +34,14 @@ pub fn solve_command<'a>(alloc: Global) -> Result<Command<'a>, AllocError>
         .arg(flag(alloc, "plan"))
 }
 
-/// The command `sure`, whose first word is read already.
+/// Makes the command `sure`, whose first word is read already.
 pub fn sure_command<'a>(alloc: Global) -> Result<Command<'a>, AllocError>
     ensures { IfOk result (λ command. app_of command ≡ sure_app) }
 {
     asked_command(alloc, "sure")
 }
 
-/// The command `make`, whose first word is read already.
+/// Makes the command `make`, whose first word is read already.
 pub fn make_command<'a>(alloc: Global) -> Result<Command<'a>, AllocError>
     ensures { IfOk result (λ command. app_of command ≡ make_app) }
 {
@@ -51,14 +51,14 @@ pub fn make_command<'a>(alloc: Global) -> Result<Command<'a>, AllocError>
     with_run_limits(alloc, command)
 }
 
-/// The words of `check`, with any words for its numbers.
+/// Makes the command `check` with any words for its numbers.
 pub(crate) fn check_with_any_numbers<'a>(alloc: Global) -> Result<Command<'a>, AllocError> {
     with_any_limits(alloc, asked_command(alloc, "check")?)?
         .arg(flag(alloc, "plan"))?
         .arg(flag(alloc, "traps"))
 }
 
-/// The words of `make`, with any words for its numbers.
+/// Makes the command `make` with any words for its numbers.
 pub(crate) fn make_with_any_numbers<'a>(alloc: Global) -> Result<Command<'a>, AllocError> {
     let command = bare_command(alloc, "make")
         .arg(positional(alloc, "seed"))?
@@ -72,7 +72,7 @@ fn with_any_limits<'a>(alloc: Global, command: Command<'a>) -> Result<Command<'a
         .arg(option(alloc, "workers"))
 }
 
-// A command of this name that asks a question.
+// Makes a command of this name that asks a question.
 fn asked_command<'a>(alloc: Global, name: &'a str) -> Result<Command<'a>, AllocError>
     ensures { IfOk result (λ command. app_of command ≡ asked_app name.entry.now) }
 {
@@ -83,7 +83,7 @@ fn asked_command<'a>(alloc: Global, name: &'a str) -> Result<Command<'a>, AllocE
         .arg(option(alloc, "own"))
 }
 
-// A command of this name, whose name is read already, and that knows no `--help`.
+// Makes a command of this name, whose name is read already, and that knows no `--help`.
 fn bare_command<'a>(alloc: Global, name: &'a str) -> Command<'a>
     ensures { app_of result ≡ bare_app name.entry.now }
 {
@@ -92,7 +92,7 @@ fn bare_command<'a>(alloc: Global, name: &'a str) -> Command<'a>
         .disable_help_flag(true)
 }
 
-// The command with the options that say how far a run goes.
+// Adds the options that say how far a run goes.
 fn with_run_limits<'a>(alloc: Global, command: Command<'a>) -> Result<Command<'a>, AllocError>
     ensures { IfOk result (λ limited. app_of limited ≡ app_with_run_limits (app_of command.entry)) }
 {

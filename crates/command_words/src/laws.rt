@@ -1,4 +1,4 @@
-//! Laws of words. Each function does nothing; its contract is the law.
+//! This module has the laws of words. Each function does nothing: its contract is the law.
 
 ghost use Rattle.std.specs.Prelude.{◌≡◌, List, pos};
 ghost use Rattle.clap.specs.Words.{Text};
@@ -21,7 +21,7 @@ pub fn limits()
     ensures most_states { MOST_STATES ≡ pos most_states }
 {}
 
-/// Words denote one command at most.
+/// Words denote at most one command.
 pub fn words_denote_one_command()
     ensures { (words : List Text) (a b : Command) → AreCommand words a → AreCommand words b → a ≡ b }
 {}

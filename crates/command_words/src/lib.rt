@@ -1,6 +1,7 @@
-//! The words of the command line: what `check`, `audit`, `solve`, `make` and `sure` take, and nothing else.
+//! This crate reads the words of the command line: what `check`, `audit`, `solve`, `make` and `sure` take, and nothing
+//! else.
 //!
-//! [`read_words`] gives the command that the words denote. The first word names it, and the words behind it are as
+//! [`read_words`] gives the command that the words denote. The first word names it, and the words after it are as
 //! `clap` reads them, by the definitions of `specs/Grammar.antt`; numbers are in their ranges, and files have names.
 //! [`refused_words`] says what is wrong with words that denote none.
 #![tactic(auto)]

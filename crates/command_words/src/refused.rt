@@ -1,4 +1,4 @@
-//! What is wrong with words that denote no command.
+//! This module says what is wrong with words that denote no command.
 
 ghost use Rattle.std.specs.Prelude.{◌≡◌, IfOk, MatchOption, map};
 ghost use Rattle.std.specs.String.{string_bytes};
@@ -14,7 +14,7 @@ use clap::{ArgMatches, Command};
 use game_outside::OutOfMemory;
 use std::alloc::Global;
 
-// A number of a command: the name of its value, how it is told, and its least and its greatest.
+// A number of a command has the name of its value, the text that tells it, its least value and its greatest value.
 type Number = (&'static str, &'static str, i64, i64);
 
 const NUMBERS: &[Number] = &[
@@ -24,8 +24,8 @@ const NUMBERS: &[Number] = &[
     ("workers", "--workers", 1, MOST_WORKERS),
 ];
 
-/// What is wrong with words, exactly where they denote no command: the first line that `clap` has for it, or the word
-/// that is refused beyond its grammar. Which words it says, no clause speaks of.
+/// Says what is wrong with words, exactly if they denote no command: the first line that `clap` has for it, or the word
+/// that is refused beyond its grammar. No clause says which text this is.
 pub fn refused_words(alloc: Global, words: &[String]) -> Result<Option<String>, OutOfMemory>
     ensures { IfOk result (λ told. MatchOption told (DenoteCommand (map string_bytes words.now))
         (λ message. AreNoCommand (map string_bytes words.now))) }
@@ -43,7 +43,7 @@ fn fault_in(alloc: Global, words: &[String]) -> Result<String, OutOfMemory> {
     }
 }
 
-// What is wrong with the words behind a name, or with the name.
+// Says what is wrong with the words after a name, or with the name.
 fn fault_behind(alloc: Global, name: &str, words: &[String]) -> Result<String, OutOfMemory> {
     match name {
         "check" => fault_found(alloc, check_with_any_numbers(alloc)?, words),
@@ -55,7 +55,7 @@ fn fault_behind(alloc: Global, name: &str, words: &[String]) -> Result<String, O
     }
 }
 
-// What `clap` finds wrong, or what is wrong with the values that it finds.
+// Says what `clap` finds wrong, or what is wrong with the values that it finds.
 fn fault_found<'a>(
     alloc: Global,
     command: Command<'a>,
@@ -73,7 +73,7 @@ fn fault_found<'a>(
     }
 }
 
-// The first line of an error, without the word that all begin with.
+// Returns the first line of an error, without the word that all errors begin with.
 fn first_line(text: &str) -> &str {
     let told = text.strip_prefix("error: ").unwrap_or(text);
     match told.split_once('\n') {
@@ -82,7 +82,7 @@ fn first_line(text: &str) -> &str {
     }
 }
 
-// The first number that is out of its range, or else that a file has no name, which is all that is refused besides.
+// Names the first number that is out of its range, or else says that a file has no name: nothing else can be wrong.
 fn fault_of_values(alloc: Global, matches: &ArgMatches<'_>) -> Result<String, OutOfMemory> {
     for (name, told, least, most) in NUMBERS {
         if let Some(word) = matches.get_str(name) {

@@ -1,4 +1,4 @@
-//! The words of the command line: the first names the command, and `clap` reads the others.
+//! This module reads the words of the command line: the first names the command, and `clap` reads the others.
 
 ghost use Rattle.std.specs.Prelude.{◌≡◌, ◌∷◌, [], IfOk, MatchOption, map, true};
 ghost use Rattle.std.specs.String.{string_bytes};
@@ -13,83 +13,83 @@ use clap::{ArgMatches, Command};
 use game_outside::OutOfMemory;
 use std::alloc::Global;
 
-/// The words that ask a question, which are those of `sure`: `TRA LAB FORMULA [--own FILE]`.
+/// These words ask a question, and are those of `sure`: `TRA LAB FORMULA [--own FILE]`.
 #[derive(Clone, Copy, Debug)]
 pub struct AskedWords<'a> {
-    /// The name of the transition file.
+    /// This is the name of the transition file.
     pub tra: &'a str,
-    /// The name of the label file.
+    /// This is the name of the label file.
     pub lab: &'a str,
-    /// The formula.
+    /// This is the formula.
     pub formula: &'a str,
-    /// The name of the owner file.
+    /// This is the name of the owner file, if one is given.
     pub own: Option<&'a str>,
 }
 
-/// The words of `check`: `TRA LAB FORMULA [--own FILE] [--rounds R] [--workers W] [--plan] [--traps]`.
+/// These are the words of `check`: `TRA LAB FORMULA [--own FILE] [--rounds R] [--workers W] [--plan] [--traps]`.
 #[derive(Clone, Copy, Debug)]
 pub struct CheckWords<'a> {
-    /// The question.
+    /// This is the question.
     pub asked: AskedWords<'a>,
-    /// How many rounds are made at most.
+    /// At most this many rounds are made.
     pub rounds: u32,
-    /// How many workers a round has at most.
+    /// A round has at most this many workers.
     pub workers: u32,
-    /// Whether the certificate is to be written.
+    /// The certificate is to be written if this is true.
     pub plan: bool,
-    /// Whether the upper table is to be lowered to the best exits of traps.
+    /// The upper table is to be lowered to the best exits of traps if this is true.
     pub traps: bool,
 }
 
-/// The words of `audit`: `TRA LAB FORMULA CERT [--own FILE]`.
+/// These are the words of `audit`: `TRA LAB FORMULA CERT [--own FILE]`.
 #[derive(Clone, Copy, Debug)]
 pub struct AuditWords<'a> {
-    /// The question.
+    /// This is the question.
     pub asked: AskedWords<'a>,
-    /// The name of the file of the certificate.
+    /// This is the name of the file of the certificate.
     pub certificate: &'a str,
 }
 
-/// The words of `solve`: `TRA LAB FORMULA [--own FILE] [--values FILE] [--plan]`.
+/// These are the words of `solve`: `TRA LAB FORMULA [--own FILE] [--values FILE] [--plan]`.
 #[derive(Clone, Copy, Debug)]
 pub struct SolveWords<'a> {
-    /// The question.
+    /// This is the question.
     pub asked: AskedWords<'a>,
-    /// The name of the file of values to begin with.
+    /// This is the name of the file of values to begin with, if one is given.
     pub values: Option<&'a str>,
-    /// Whether the certificate is to be written.
+    /// The certificate is to be written if this is true.
     pub plan: bool,
 }
 
-/// The words of `make`: `SEED STATES [--rounds R] [--workers W]`.
+/// These are the words of `make`: `SEED STATES [--rounds R] [--workers W]`.
 #[derive(Clone, Copy, Debug)]
 pub struct MakeWords {
-    /// The seed of the game, from 1 to 2147483646.
+    /// The seed of the game is from 1 to 2147483646.
     pub seed: u32,
-    /// How many states the game is to have, from 3 to 1,000,000.
+    /// The game is to have this many states, from 3 to 1,000,000.
     pub states: u32,
-    /// How many rounds are made at most.
+    /// At most this many rounds are made.
     pub rounds: u32,
-    /// How many workers a round has at most.
+    /// A round has at most this many workers.
     pub workers: u32,
 }
 
-/// The words of a command.
+/// These are the words of one of the five commands.
 #[derive(Clone, Copy, Debug)]
 pub enum CommandWords<'a> {
-    /// `check`.
+    /// These are the words of `check`.
     Check(CheckWords<'a>),
-    /// `audit`.
+    /// These are the words of `audit`.
     Audit(AuditWords<'a>),
-    /// `solve`.
+    /// These are the words of `solve`.
     Solve(SolveWords<'a>),
-    /// `make`.
+    /// These are the words of `make`.
     Make(MakeWords),
-    /// `sure`.
+    /// These are the words of `sure`.
     Sure(AskedWords<'a>),
 }
 
-/// The command that the words denote, or none where they denote no command. The only error is want of memory.
+/// Returns the command that the words denote, or none if they denote no command. The only error is that memory ran out.
 pub fn read_words(alloc: Global, words: &[String]) -> Result<Option<CommandWords<'_>>, OutOfMemory>
     ensures { IfOk result (λ read. MatchOption read (AreNoCommand (map string_bytes words.now))
         (λ command. AreCommand (map string_bytes words.now) (command_of command))) }
@@ -100,7 +100,7 @@ pub fn read_words(alloc: Global, words: &[String]) -> Result<Option<CommandWords
     }
 }
 
-// The command of this name that the words behind it denote, or none.
+// Returns the command of this name that the words after it denote, or none.
 fn read_command<'a>(
     alloc: Global,
     name: &str,
@@ -113,7 +113,7 @@ fn read_command<'a>(
         "check" => Ok(read_check(alloc, words)?.map(CommandWords::Check)),
         "audit" => Ok(read_audit(alloc, words)?.map(CommandWords::Audit)),
         "solve" => Ok(read_solve(alloc, words)?.map(CommandWords::Solve)),
-        // (what is made borrows nothing, which a proof over `map` does not cover)
+        // What `make` gives borrows nothing, and a proof over `map` does not cover this case.
         "make" => match read_make(alloc, words)? {
             Some(make) => Ok(Some(CommandWords::Make(make))),
             None => Ok(None),
@@ -123,7 +123,7 @@ fn read_command<'a>(
     }
 }
 
-// What the words behind `check` say, or none where they denote no command.
+// Returns what the words after `check` say, or none if they denote no command.
 fn read_check(alloc: Global, words: &[String]) -> Result<Option<CheckWords<'_>>, OutOfMemory>
     ensures { IfOk result (λ read. MatchOption read ((check : Check) → AreCheckWords (map string_bytes words.now) check
         → ⊥) (λ check. AreCheckWords (map string_bytes words.now) (check_of check))) }
@@ -134,7 +134,7 @@ fn read_check(alloc: Global, words: &[String]) -> Result<Option<CheckWords<'_>>,
     }
 }
 
-// What the words behind `audit` say, or none where they denote no command.
+// Returns what the words after `audit` say, or none if they denote no command.
 fn read_audit(alloc: Global, words: &[String]) -> Result<Option<AuditWords<'_>>, OutOfMemory>
     ensures { IfOk result (λ read. MatchOption read ((audit : Audit) → AreAuditWords (map string_bytes words.now) audit
         → ⊥) (λ audit. AreAuditWords (map string_bytes words.now) (audit_of audit))) }
@@ -145,7 +145,7 @@ fn read_audit(alloc: Global, words: &[String]) -> Result<Option<AuditWords<'_>>,
     }
 }
 
-// What the words behind `solve` say, or none where they denote no command.
+// Returns what the words after `solve` say, or none if they denote no command.
 fn read_solve(alloc: Global, words: &[String]) -> Result<Option<SolveWords<'_>>, OutOfMemory>
     ensures { IfOk result (λ read. MatchOption read ((solve : Solve) → AreSolveWords (map string_bytes words.now) solve
         → ⊥) (λ solve. AreSolveWords (map string_bytes words.now) (solve_of solve))) }
@@ -156,7 +156,7 @@ fn read_solve(alloc: Global, words: &[String]) -> Result<Option<SolveWords<'_>>,
     }
 }
 
-// What the words behind `sure` say, or none where they denote no command.
+// Returns what the words after `sure` say, or none if they denote no command.
 fn read_sure(alloc: Global, words: &[String]) -> Result<Option<AskedWords<'_>>, OutOfMemory>
     ensures { IfOk result (λ read. MatchOption read ((asked : Asked) → AreSureWords (map string_bytes words.now) asked
         → ⊥) (λ asked. AreSureWords (map string_bytes words.now) (asked_of_words asked))) }
@@ -167,7 +167,7 @@ fn read_sure(alloc: Global, words: &[String]) -> Result<Option<AskedWords<'_>>, 
     }
 }
 
-// What the words behind `make` say, or none where they denote no command.
+// Returns what the words after `make` say, or none if they denote no command.
 fn read_make(alloc: Global, words: &[String]) -> Result<Option<MakeWords>, OutOfMemory>
     ensures { IfOk result (λ read. MatchOption read ((make : Make) → AreMakeWords (map string_bytes words.now) make → ⊥)
         (λ make. AreMakeWords (map string_bytes words.now) (make_of make))) }
@@ -178,7 +178,7 @@ fn read_make(alloc: Global, words: &[String]) -> Result<Option<MakeWords>, OutOf
     }
 }
 
-// What the command finds in the words, or none where it does not take them.
+// Returns what the command finds in the words, or none if it does not take them.
 fn taken<'a>(
     command: Command<'a>,
     words: &'a [String],

@@ -1,4 +1,4 @@
-//! The components of a question.
+//! This module divides the states of a question into components.
 
 ghost use Rattle.std.specs.Prelude.{◌≡◌, ℕ, ◌+◌, ◌-◌, ◌<◌, IfOk, IsTrue, EachIndex, length, slice_index};
 ghost use Rattle.game_model.specs.Query.{states};
@@ -14,7 +14,7 @@ use game_outside::OutOfMemory;
 use std::alloc::Global;
 use std::marker::Model;
 
-/// The states of a question, divided into components. These are numbered from 0, in the order of play.
+/// The states of a question are divided into components, which are numbered from 0 in the order of play.
 #[derive(Drop)]
 pub struct Components {
     lists: Lists,
@@ -32,8 +32,9 @@ impl Model for Components {
 }
 
 impl Components {
-    /// The strongly connected components over the choices that are kept (Tarjan 1972). The members of each stand by the
-    /// order that is handed in, and behind them those that it lacks by their numbers. The only error is want of memory.
+    /// Finds the strongly connected components over the choices that are kept (Tarjan 1972). The members of each
+    /// component follow the given order. States that this order lacks come behind them, by their numbers. The only
+    /// error is that memory ran out.
     pub fn of_question<K: Keeps>(
         alloc: Global,
         question: &Question,
@@ -54,21 +55,21 @@ impl Components {
         }
     }
 
-    /// Tells a proof what all components keep. It does nothing.
+    /// Tells a proof what holds for all components. It does nothing.
     pub fn known(&self)
         ensures { IsPartition self.now }
     {
         let _ = &self.lists;
     }
 
-    /// How many components there are.
+    /// Returns the number of components.
     pub fn count(&self) -> u32
         ensures { result + 1 ≡ length self.now.starts }
     {
         (self.lists.starts.len() - 1) as u32
     }
 
-    /// The number of a state's component.
+    /// Returns the number of a state's component.
     pub fn component_of(&self, state: u32) -> u32
         requires { state < states_of self.now }
         ensures value { result ≡ slice_index self.now.component state }
@@ -77,7 +78,7 @@ impl Components {
         self.lists.component[state as usize]
     }
 
-    /// Where a state stands among the members of its component.
+    /// Returns the place of a state among the members of its component.
     pub fn place_of(&self, state: u32) -> u32
         requires { state < states_of self.now }
         ensures { result ≡ slice_index self.now.places state - begin self.now (slice_index self.now.component state) }
@@ -86,7 +87,7 @@ impl Components {
         self.lists.places[state as usize] - self.lists.starts[component as usize]
     }
 
-    /// The states of a component.
+    /// Returns the states of a component.
     pub fn members(&self, component: u32) -> &[u32]
         requires { component + 1 < length self.now.starts }
         ensures list { result.now ≡ members_of self.now component }
@@ -98,8 +99,8 @@ impl Components {
     }
 }
 
-/// For each state the number of its component, as [`Components::of_question`] finds it, without the lists of members.
-/// Each number is below the number of states. The only error is want of memory.
+/// Gives each state the number of its component, as [`Components::of_question`] finds it, without the lists of members.
+/// Each number is below the number of states. The only error is that memory ran out.
 pub fn component_numbers<K: Keeps>(
     alloc: Global,
     question: &Question,
@@ -118,7 +119,7 @@ pub fn component_numbers<K: Keeps>(
     zeros(alloc, states)
 }
 
-/// Whether all entries are below this number.
+/// Returns whether all entries are below this number.
 fn all_below(list: &[u32], bound: u32) -> bool
     ensures { IsTrue result → ((k : ℕ) → k < length list.now → slice_index list.now k < bound) }
 {
@@ -130,7 +131,7 @@ fn all_below(list: &[u32], bound: u32) -> bool
     true
 }
 
-/// So many zeros.
+/// Returns a list of this many zeros.
 fn zeros(alloc: Global, count: u32) -> Result<Vec<u32>, OutOfMemory>
     ensures many { IfOk result (λ l. length l.items ≡ count) }
     ensures zero { IfOk result (λ l. (k : ℕ) → slice_index l.items k ≡ 0) }

@@ -1,4 +1,4 @@
-//! Which choices are kept.
+//! This module says which choices are kept.
 
 ghost use Rattle.std.specs.Prelude.{◌≡◌, ℕ, ◌<◌, Bool, true, length};
 ghost use Rattle.game_model.specs.Game.{choices_of, choices_below};
@@ -8,15 +8,15 @@ ghost use Rattle.predecessors.specs.Flags.{flag};
 use game_model::Question;
 use predecessors::ChoiceFlags;
 
-/// What keeps choices of a question.
+/// A type with this trait says which choices of a question are kept.
 pub trait Keeps {
-    /// Whether it is one for this question.
+    /// It has to fit the question.
     ghost fits: { Self → Query → Type 0 };
 
-    /// The choices that it keeps, by their state and their place among its choices.
+    /// It keeps these choices. Each is given by its state and its place among the state's choices.
     ghost kept: { Self → Query → ℕ → ℕ → Bool };
 
-    /// Whether a choice of a state is kept.
+    /// Returns whether a choice of a state is kept.
     fn keeps(&self, question: &Question, state: u32, choice: u32) -> bool
         requires fits { fits self.now question.now }
         requires state { state < states question.now }
@@ -24,7 +24,7 @@ pub trait Keeps {
         ensures { result ≡ kept self.now question.now state choice };
 }
 
-/// Keeps every choice.
+/// This type keeps every choice.
 #[derive(Drop)]
 pub struct KeepsAll {}
 

@@ -1,4 +1,4 @@
-//! Whether components stand in the order of play.
+//! This module tests whether components are in the order of play.
 
 ghost use Rattle.std.specs.Prelude.{◌≡◌, ◌<◌, IsTrue, length};
 ghost use Rattle.game_model.specs.Game.{choices_of, choice_of};
@@ -8,7 +8,7 @@ ghost use Rattle.components.specs.Order.{LeadsBack, StateLeadsBack, IsPlayOrder}
 use crate::keeps::Keeps;
 use game_model::Question;
 
-/// Whether each successor by a kept choice stands in the component of its state or in an earlier one.
+/// Returns whether each successor by a kept choice is in the component of its state or in an earlier one.
 pub fn is_play_order<K: Keeps>(question: &Question, kept: &K, component: &[u32]) -> bool
     requires fits { K.fits kept.now question.now }
     requires many { length component.now ≡ states question.now }
@@ -22,7 +22,7 @@ pub fn is_play_order<K: Keeps>(question: &Question, kept: &K, component: &[u32])
     true
 }
 
-/// The same of the kept choices of one state.
+/// Returns the same for the kept choices of one state.
 fn state_leads_back<K: Keeps>(question: &Question, kept: &K, component: &[u32], state: u32) -> bool
     requires fits { K.fits kept.now question.now }
     requires many { length component.now ≡ states question.now }
@@ -38,7 +38,7 @@ fn state_leads_back<K: Keeps>(question: &Question, kept: &K, component: &[u32], 
     true
 }
 
-/// The same of one choice.
+/// Returns the same for one choice.
 fn leads_back(question: &Question, component: &[u32], state: u32, choice: u32) -> bool
     requires many { length component.now ≡ states question.now }
     requires state { state < states question.now }

@@ -1,4 +1,4 @@
-//! Tarjan's search, without recursion.
+//! This module has Tarjan's search, without recursion.
 
 ghost use Rattle.std.specs.Prelude.{◌≡◌, ◌<◌, IfOk, IfSome, EachIndex, length, slice_index, vec_len};
 ghost use Rattle.game_model.specs.Game.{choices_of};
@@ -9,14 +9,14 @@ use game_model::Question;
 use game_outside::OutOfMemory;
 use std::alloc::Global;
 
-/// Fills the component and the place of a state that has none yet, and the places of a list that hold no member yet.
+/// This is the component and the place of a state that has none yet, and the entry of a place without a member.
 pub const NONE: u32 = 4_294_967_295;
 
-/// The number of a state that has a component: above those of the states that wait for theirs.
+/// A state that has a component has this number, which is above those of the states that wait for theirs.
 const CLOSED: u32 = 4_294_967_295;
 
-/// What a search knows of a state that it has met: the least number of a state without a component to which the state
-/// is known to lead, and the next edge to follow.
+/// A search knows this of a state that it has met. `low` is the least number of a state without a component to which it
+/// is known to lead. `choice` and `place` give the next edge to follow.
 #[derive(Clone, Copy)]
 struct Seen {
     low: u32,
@@ -24,10 +24,10 @@ struct Seen {
     place: u32,
 }
 
-/// A search under way: how many states it has met, and how many components it has closed; the number of each state by
-/// the order in which states were met, which is 0 until it was met and `CLOSED` once it has a component; the path to
-/// the state at hand; and the states that were met and have no component yet. The numbers are a list of their own,
-/// because they alone are read for every edge.
+/// A search under way has met `met` states and closed `count` components. The numbers give the order in which states were
+/// met: a number is 0 until its state is met, and `CLOSED` once the state has a component. They are a list of their
+/// own because they are all that is read for every edge. `path` leads to the current state. `waiting` has the states
+/// that were met and have no component yet.
 #[derive(Drop)]
 pub struct Search {
     pub states: u32,
@@ -46,7 +46,7 @@ pub struct Search {
 }
 
 impl Search {
-    /// A search that has met no state.
+    /// Makes a search that has met no state.
     fn new(alloc: Global, states: u32) -> Result<Search, OutOfMemory>
         ensures { IfOk result (λ s. s.states ≡ states) }
     {
@@ -67,7 +67,7 @@ impl Search {
         })
     }
 
-    /// Whether a state was met.
+    /// Returns whether a state was met.
     fn has_met(&self, state: u32) -> bool
         requires { state < self.now.states }
     {
@@ -91,8 +91,8 @@ impl Search {
         Ok(())
     }
 
-    /// Follows edges of the last state of the path up to one to a state that was not met, passes to its next choice or
-    /// leaves it. False where the path is empty.
+    /// Follows edges of the last state of the path up to one that leads to an unmet state, passes to its next choice or
+    /// leaves it. It returns false if the path is empty.
     fn step<K: Keeps>(&mut self, question: &Question, kept: &K) -> Result<bool, OutOfMemory>
         requires fits { K.fits kept.now question.now }
         requires one { self.old.states ≡ states question.now }
@@ -110,8 +110,8 @@ impl Search {
         Ok(true)
     }
 
-    /// Follows the next edges of a choice up to one to a state that was not met, and meets it, or passes to the next
-    /// choice.
+    /// Follows the next edges of a choice up to one that leads to an unmet state, and meets this state. If there is
+    /// none, it passes to the next choice.
     fn look<K: Keeps>(
         &mut self,
         question: &Question,
@@ -140,8 +140,8 @@ impl Search {
         Ok(())
     }
 
-    /// The place of the first of these successors, from one place on, that was not met. The low number of the state is
-    /// lowered by those before it.
+    /// Returns the place of the first unmet one of these successors, from one place on. Those before it lower the low
+    /// number of the state.
     fn follow(&mut self, state: u32, successors: &[u32], from: usize) -> Option<usize>
         requires state { state < self.old.states }
         requires inside { EachIndex successors.now (λ k. slice_index successors.now k < self.old.states) }
@@ -172,8 +172,8 @@ impl Search {
         }
     }
 
-    /// Leaves the last state of the path. If it is the first one met of its component, those that wait since then are
-    /// the others.
+    /// Leaves the last state of the path. If it was met first of its component, the states that wait since then are the
+    /// others.
     fn leave(&mut self, state: u32)
         requires { state < self.old.states }
         ensures { self.new.states ≡ self.old.states }
@@ -212,7 +212,7 @@ impl Search {
         self.count = self.count.saturating_add(1);
     }
 
-    /// Meets all states that this one leads to, and closes their components, in at most so many steps.
+    /// Meets all states to which this one leads, and closes their components, in at most this many steps.
     fn run<K: Keeps>(
         &mut self,
         question: &Question,
@@ -234,7 +234,7 @@ impl Search {
         Ok(())
     }
 
-    /// For each state the number of its component, as the search finds it over the kept choices.
+    /// Gives each state the number of its component over the kept choices.
     pub fn of_question<K: Keeps>(
         alloc: Global,
         question: &Question,
@@ -260,7 +260,7 @@ impl Search {
     }
 }
 
-/// Whether some choice of a state is kept.
+/// Returns whether some choice of a state is kept.
 fn keeps_any<K: Keeps>(question: &Question, kept: &K, state: u32) -> bool
     requires fits { K.fits kept.now question.now }
     requires state { state < states question.now }
@@ -273,7 +273,7 @@ fn keeps_any<K: Keeps>(question: &Question, kept: &K, state: u32) -> bool
     false
 }
 
-/// The most steps of a search: one for each edge, choice and state, and one to see that the path is empty.
+/// Returns the most steps of a search: one for each edge, choice and state, and one to see that the path is empty.
 fn most_steps(question: &Question) -> u64 {
     let game = question.game();
     let states = game.states();

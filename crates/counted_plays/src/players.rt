@@ -1,4 +1,4 @@
-//! What strategies with memory and with dice reach in the game of give and take.
+//! This module has what strategies with memory and with dice reach in the game of give and take.
 
 ghost use Rattle.std.specs.Prelude.{◌≡◌, []};
 ghost use Rattle.game_model.specs.declared.game.Side.{Side};
@@ -11,8 +11,8 @@ ghost use Rattle.counted_plays.specs.Counted.{three_answered, one_throw};
 ghost use Rattle.counted_plays.specs.Games.{give_and_take};
 ghost use Rattle.counted_plays.specs.Players.{first_choice, harsh, alternating, answering, tossing};
 
-/// Each takes a choice that exists, whatever has been played: the first one in every game, the others in that of give
-/// and take.
+/// Each of these strategies takes a choice that exists, whatever has been played: the first strategy in every game, the
+/// others in the game of give and take.
 pub fn players_have_strategies()
     ensures first_choice { (q : Query) (side : Side) → IsQuery q → IsStrategyOf q side first_choice }
     ensures alternating { IsStrategyOf give_and_take Max alternating }
@@ -21,10 +21,11 @@ pub fn players_have_strategies()
     ensures answering { IsStrategyOf give_and_take Min answering }
 {}
 
-/// The maximiser is careful, then bold, and so on; the minimiser answers a careful choice harshly and a bold one
+/// The maximiser is careful, then bold, and so on; the minimiser answers a careful choice harshly and a bold choice
 /// mildly. Three turns go in 4 * 4 * 4 = 64 ways. Half of them are lost at the second turn, where the state is dead,
-/// though the third comes to a goal; of the others the third wins half: 1/4, 16 ways, and 48 avoid it. The fourth turn
-/// leads back, so the next three win a quarter of the last quarter: 5/16, 5120 of 16384, within seven.
+/// though the third turn comes to a goal. The third turn wins half of the others: 1/4, 16 ways, and 48 avoid the goal.
+/// The fourth turn leads back, so the next three win a quarter of the last quarter: 5/16, 5120 of 16384, within seven
+/// turns.
 #[tactic(auto, unfolding(strategies::specs::Strategies::reach, strategies::specs::Plays::plays))]
 pub fn memory_is_counted()
     ensures all { plays give_and_take 1 alternating answering 3 [] 0 ≡ three_answered }
@@ -34,10 +35,10 @@ pub fn memory_is_counted()
     ensures seven { reach give_and_take 1 alternating answering 7 [] 0 ≡ 5120 }
 {}
 
-/// A die of two faces, against the harsh minimiser: three turns go in 8 * 8 * 8 = 512 ways.
-/// To be bold wins at the first turn or, by half of half, at the third: 1/2 + 1/4 * 1/2 = 5/8, 320 ways, which is the
-/// value within three turns, 40/64. To be careful first wins at the third turn alone: 1/2 * 1/2 = 1/4, 128 ways. The
-/// die that decides between them wins their average: 7/16, 224 ways.
+/// The die has two faces, and the minimiser is harsh: three turns go in 8 * 8 * 8 = 512 ways. Being bold wins at the
+/// first turn or, by half of half, at the third: 1/2 + 1/4 * 1/2 = 5/8, 320 ways, which is the value within three
+/// turns, 40/64. Being careful first wins only at the third turn: 1/2 * 1/2 = 1/4, 128 ways. If the die decides between
+/// them, the average of both is won: 7/16, 224 ways.
 #[tactic(auto, unfolding(strategies::specs::Strategies::reach, strategies::specs::Plays::plays, game_model::specs::Values::numerator_of))]
 pub fn dice_are_counted()
     ensures turn { plays give_and_take 2 tossing harsh 1 [] 0 ≡ one_throw }

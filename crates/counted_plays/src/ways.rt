@@ -1,4 +1,4 @@
-//! The games, and the ways in which the coin loop goes.
+//! This module has the games, and the ways in which the coin loop goes.
 
 ghost use Rattle.std.specs.Prelude.{◌≡◌, ℕ, ◌*◌, ◌^◌, []};
 ghost use Rattle.game_model.specs.Query.{IsQuery};
@@ -31,8 +31,8 @@ pub fn three_turns_are_counted()
     ensures avoided { avoid coin_loop 1 first_choice first_choice 3 0 ≡ 36 }
 {}
 
-/// One turn of the coin loop goes in 4 ways, of which 2 stay at state 0 and 1 comes to state 1; and that 1 is what both
-/// sides can be sure of.
+/// One turn of the coin loop goes in 4 ways, of which 2 stay at state 0 and 1 comes to state 1. Both sides can be sure
+/// of that 1.
 #[tactic(auto, unfolding(strategies::specs::Plays::plays))]
 pub fn the_next_state_is_counted()
     ensures stays { ways_next coin_loop (only 0) 1 first_choice first_choice 0 ≡ 2 }
@@ -40,7 +40,7 @@ pub fn the_next_state_is_counted()
     ensures sure { (parts : ℕ → ℕ) → AreBestNext coin_loop (only 1) parts → parts 0 ≡ 1 }
 {}
 
-/// Each turn of the coin loop ends the play with the probability 1/2, so 8 of the 64 ways of three turns are undecided,
+/// Each turn of the coin loop ends the play with the probability 1/2. So 8 of the 64 ways of three turns are undecided,
 /// and 56 are over.
 #[tactic(auto, unfolding(strategies::specs::Strategies::reach, strategies::specs::Stopping::undecided))]
 pub fn the_coin_loop_stops()

@@ -1,4 +1,4 @@
-//! Expected rewards of games that are small enough to count by hand.
+//! This crate counts by hand the expected rewards of games that are small enough.
 //!
 //! No function here does anything: its contract is the example.
 //!

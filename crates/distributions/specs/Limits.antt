@@ -1,10 +1,10 @@
--- The limits of choices.
+-- This module defines the limits of choices.
 use Rattle.std.specs.Prelude.{ℕ}
 
--- parts of a choice: as many as a transition text has lines at most
+-- A choice has at most this many parts, the greatest number of lines of a transition text.
 abbrev pub most_parts : ℕ
 most_parts = 8000000
 
--- one part in this many: how far a sum of decimals, which may be rounded, misses 1
+-- A sum of decimals, which may be rounded, misses 1 by at most one part in this many.
 abbrev pub tolerance : ℕ
 tolerance = 100000

@@ -1,4 +1,4 @@
--- The distribution that the parts of a choice add up to.
+-- This module defines the distribution that the parts of a choice add up to.
 use Rattle.std.specs.Prelude.{◌≡◌, ◌≤◌, ℕ, zero, suc, ◌+◌, ◌-◌, ◌*◌, ◌/◌, ◌==◌, nat_lt, max, List, [], ◌∷◌, map, All}
 use Rattle.std.specs.Prelude.{Result, Ok, Err, if◌then◌else◌}
 use Prim.Native.Nat.{◌∣◌}
@@ -11,28 +11,28 @@ use Rattle.fractions.specs.Limits.{finest}
 use Rattle.distributions.specs.Limits.{tolerance}
 use Rattle.fractions.specs.Divisors.{lcm}
 
--- the destination of a part, and its share of the common denominator as a whole weight
+-- This edge has the successor of a part, and its share of the common denominator as a whole weight.
 abbrev pub edge_of_part : ℕ → Part → Edge
 edge_of_part common part = record { to = part.to; weight = part.share.num * common / part.share.den }
 
--- the edges of the parts, one each, with their shares as whole weights over a common denominator
+-- These are the edges of the parts, one for each part, with their shares as whole weights over a common denominator.
 abbrev pub weighted : ℕ → List Part → List Edge
 weighted common parts = map (λ part. edge_of_part common part) parts
 
--- how far two numbers are apart
+-- This is the distance of two numbers.
 abbrev pub distance : ℕ → ℕ → ℕ
 distance a b = (a - b) + (b - a)
 
--- 1. The distribution, as a relation in which the order of the parts plays no part.
+-- 1. These definitions give the distribution as a relation, for which the order of the parts does not matter.
 
--- the least common multiple of the denominators
+-- This is the least common multiple of the denominators.
 pub record IsCommonDenominator (common : ℕ) (parts : List Part) : Type 0 where
   pub positive : 1 ≤ common
   pub multiple : All (λ part. part.share.den ∣ common) parts
   pub least : (m : ℕ) → All (λ part. part.share.den ∣ m) parts → common ∣ m
 
--- the distribution of these parts: a weight is the sum of the shares of its destination, counted in parts of their
--- least common denominator, and the weights come to 1 but for at most one part in 100,000
+-- This is the distribution of these parts. A weight is the sum of the shares of its successor, counted in parts of
+-- their least common denominator, and the sum of the weights misses 1 by at most one part in 100,000.
 pub record DenotesChoice (parts : List Part) (distribution : Distribution) : Type 0 where
   pub common : ℕ
   pub denominator : IsCommonDenominator common parts
@@ -43,53 +43,54 @@ pub record DenotesChoice (parts : List Part) (distribution : Distribution) : Typ
   pub total : distribution.total ≡ total_of distribution.edges
   pub near_one : distance distribution.total common * tolerance ≤ common
 
--- 2. The distribution or the first fault, by cases on the parts.
+-- 2. These definitions give the distribution or the first fault, by cases on the parts.
 
--- the least common multiple of a number and the denominators, or the first that is too fine
+-- This is the least common multiple of a number and the denominators, or the first fault, that it is too fine.
 abbrev pub denominator_said : ℕ → List Part → Result ℕ ChoiceFault
 denominator_said common [] = Ok common
 denominator_said common (part ∷ parts) =
     if nat_lt finest (lcm common part.share.den) then Err (TooFine common part.share.den) else denominator_said
     (lcm common part.share.den) parts
 
--- an edge, unless its weight is 0
+-- An edge is kept, unless its weight is 0.
 abbrev pub keep_edge : ℕ → ℕ → List Edge → List Edge
 keep_edge to weight edges = if weight == 0 then edges else record { to = to; weight = weight } ∷ edges
 
--- the edges of these weights to so many destinations, from the first on
+-- These are the edges with these weights to this many successors, from `first` on.
 unfoldable pub edges_from : (ℕ → ℕ) → ℕ → ℕ → List Edge
 edges_from weight first zero = []
 edges_from weight first (suc more) = keep_edge first (weight first) (edges_from weight (first + 1) more)
 
--- a number above each destination
+-- This number is above each successor.
 unfoldable pub span : List Edge → ℕ
 span [] = 0
 span (e ∷ edges) = max (e.to + 1) (span edges)
 
--- the edges by rising destination, those to one destination added up
+-- These are the edges in the order of their successors. The edges to one successor are added up.
 unfoldable pub gathered : List Edge → List Edge
 gathered edges = edges_from (weight_to edges) 0 (span edges)
 
--- the distribution with these edges and this total
+-- This is the distribution with these edges and this total.
 abbrev pub with_total : List Edge → ℕ → Distribution
 with_total edges total = record { total = total; edges = edges }
 
--- the distribution with these edges, where their weights nearly sum to the common denominator
+-- This is the distribution with these edges, if the sum of their weights is near the common denominator, or else the
+-- fault.
 abbrev pub sum_said : ℕ → List Edge → Result Distribution ChoiceFault
 sum_said common edges =
     if nat_lt common (distance (total_of edges) common * tolerance) then Err (BadSum (total_of edges) common) else Ok
     (record { total = total_of edges; edges = edges })
 
--- the distribution of these parts over a common denominator, or the first fault, of which that of the denominator is
--- first
+-- This is the distribution of these parts over a common denominator, or the first fault. A fault of the denominator
+-- comes first.
 abbrev pub choice_over : Result ℕ ChoiceFault → List Part → Result Distribution ChoiceFault
 choice_over (Ok common) parts = sum_said common (gathered (weighted common parts))
 choice_over (Err fault) parts = Err fault
 
--- the distribution of a choice with these parts, or the first fault
+-- This is the distribution of a choice with these parts, or the first fault.
 abbrev pub choice_said : List Part → Result Distribution ChoiceFault
 choice_said parts = choice_over (denominator_said 1 parts) parts
 
--- memory was wanting, which is no fault of the parts
+-- Memory ran out, which is no fault of the parts.
 abbrev pub IsOutOfMemory : ChoiceFault → Type 0
 IsOutOfMemory fault = fault ≡ OutOfMemory

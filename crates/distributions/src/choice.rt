@@ -1,4 +1,4 @@
-//! The distribution of a choice.
+//! This module makes the distribution of a choice.
 
 ghost use Rattle.std.specs.Prelude.{◌≡◌, ◌<◌, ◌≤◌, ◌*◌, ◌/◌, ◌^◌, ◌∷◌, [], IfOk, OnOk, Ok, All, length};
 ghost use Rattle.std.specs.Option.{IfSome};
@@ -16,24 +16,25 @@ use fractions::{Frac, MOST_NARROW, least_common_multiple};
 use game_model::{Choice, Edge};
 use std::alloc::{AllocError, Global};
 
-/// A part of a choice: a destination and its probability.
+/// A part of a choice has a successor and its probability.
 #[derive(Clone, Copy, Debug, PartialEq, Eq)]
 pub struct Part {
     pub to: u32,
     pub share: Frac,
 }
 
-/// Why parts make no choice: want of memory, or the first reason in this order.
+/// This says why parts make no choice: memory ran out, or the first reason in this order.
 #[derive(Clone, Copy, Debug, PartialEq, Eq)]
 pub enum ChoiceFault {
     OutOfMemory,
-    /// The common denominator passes 10^23: that of the parts before, and the denominator that passes it.
+    /// The least common denominator passes 10^23: `first` is that of the parts before, and `second` is the denominator
+    /// with which it passes 10^23.
     TooFine { first: u128, second: u128 },
-    /// The weights miss the common denominator by more than one part in 100,000: their sum, and that denominator.
+    /// The sum of the weights misses the common denominator by more than one part in 100,000.
     BadSum { sum: u128, denominator: u128 },
 }
 
-/// Tells a proof what every part keeps. It does nothing.
+/// Tells a proof which facts hold for every part. It does nothing.
 pub fn known_of_all(parts: &[Part])
     ensures { All (λ part. IsFraction part.share) parts.now }
 {
@@ -42,7 +43,7 @@ pub fn known_of_all(parts: &[Part])
     }
 }
 
-// The least common multiple of the denominators.
+// Returns the least common multiple of the denominators.
 #[tactic(auto, using(crate::proofs::Multiples::lcm_some))]
 fn common_denominator(parts: &[Part]) -> Result<u128, ChoiceFault>
     ensures value { result ≡ denominator_said 1 parts.now }
@@ -65,7 +66,7 @@ fn common_denominator(parts: &[Part]) -> Result<u128, ChoiceFault>
     Ok(common)
 }
 
-// How often a denominator goes into a common one.
+// Returns how often a denominator goes into a common denominator.
 fn factor_of(common: u128, den: u128) -> u128
     requires { 1 ≤ den }
     ensures { result ≡ common / den }
@@ -79,7 +80,7 @@ fn factor_of(common: u128, den: u128) -> u128
     common / den
 }
 
-// The destination of a part, and its weight.
+// Returns the edge of a part: its successor and its weight.
 #[tactic(auto, using(crate::proofs::Multiples::share_weight, crate::proofs::Multiples::share_small))]
 fn edge_of(common: u128, part: &Part) -> Edge
     requires divided { part.now.share.den ∣ common }
@@ -94,7 +95,7 @@ fn edge_of(common: u128, part: &Part) -> Edge
     }
 }
 
-// The edges of the parts, one each, in place of those of a list.
+// Puts the edges of the parts, one for each part, in place of those of a list.
 fn weigh(edges: &mut Vec<Edge>, common: u128, parts: &[Part]) -> Result<(), AllocError>
     requires divided { All (λ part. part.share.den ∣ common) parts.now }
     requires fine { common ≤ finest }
@@ -108,7 +109,7 @@ fn weigh(edges: &mut Vec<Edge>, common: u128, parts: &[Part]) -> Result<(), Allo
     Ok(())
 }
 
-// The total of these edges, where their weights nearly sum to the common denominator.
+// Returns the total of these edges, if the sum of their weights is near the common denominator.
 fn near_total(common: u128, edges: &[Edge]) -> Result<u128, ChoiceFault>
     requires positive { 1 ≤ common }
     requires fine { common ≤ finest }
@@ -128,7 +129,7 @@ fn near_total(common: u128, edges: &[Edge]) -> Result<u128, ChoiceFault>
     Ok(sum)
 }
 
-// The edge of a choice whose one part has the probability 1.
+// Returns the edge of a choice if its only part has the probability 1.
 fn sure_edge(parts: &[Part]) -> Option<Edge>
     ensures said { IfSome result (λ edge. choice_said parts.now ≡ Ok (with_total (edge ∷ []) 1)) }
     ensures weight { IfSome result (λ edge. edge.weight ≡ 1) }
@@ -145,7 +146,7 @@ fn sure_edge(parts: &[Part]) -> Option<Edge>
     })
 }
 
-// Puts the edges of the choice with these parts in place of those of a list, and gives their total.
+// Puts the edges of the choice with these parts in place of those of a list, and returns their total.
 fn fill(alloc: Global, edges: &mut Vec<Edge>, parts: &[Part]) -> Result<u128, ChoiceFault>
     requires { length parts.now ≤ most_parts }
     ensures said { AnswersOrWants IsOutOfMemory (with_total edges.new.items) result (choice_said parts.now) }
@@ -165,7 +166,7 @@ fn fill(alloc: Global, edges: &mut Vec<Edge>, parts: &[Part]) -> Result<u128, Ch
     near_total(common, edges)
 }
 
-/// Puts the edges of the choice with these parts in place of those of a list, and gives their total, or the first
+/// Puts the edges of the choice with these parts in place of those of a list, and returns their total, or the first
 /// reason why the parts make no choice, as `make_choice` does. So one list serves choice after choice.
 pub fn fill_choice(
     alloc: Global,
@@ -186,9 +187,9 @@ pub fn fill_choice(
     fill(alloc, edges, parts)
 }
 
-/// The choice with these parts, or the first reason why they make none. The weight of a destination is the sum of its
-/// parts over the common denominator; a choice whose weights nearly sum to that denominator is divided by their sum.
-/// What is said of parts is what they denote: `laws::said_is_denoted`.
+/// Returns the choice with these parts, or the first reason why they make none. The weight of a successor is the sum of
+/// its parts over the common denominator. If the sum of the weights is near that denominator, the choice is divided by
+/// their sum. The answer is the choice that the parts denote: `laws::said_is_denoted`.
 pub fn make_choice(alloc: Global, parts: &[Part]) -> Result<Choice, ChoiceFault>
     requires { length parts.now ≤ most_parts }
     ensures { AnswersOrWants IsOutOfMemory (λ c. c) result (choice_said parts.now) }

@@ -1,4 +1,4 @@
-//! Edges by rising destination, those to one destination added up.
+//! This module puts edges in the order of their successors, and adds up the edges to one successor.
 
 ghost use Rattle.std.specs.Prelude.{◌≡◌, ◌<◌, ◌≤◌, ◌+◌, ◌^◌, ◌++◌, ◌∷◌, [], ℕ, List, All, OnOk, IfOk, IsTrue};
 ghost use Rattle.game_model.specs.declared.game.Edge.{Edge};
@@ -10,7 +10,7 @@ ghost use Rattle.game_model.specs.Rising.{RiseFrom};
 use game_model::Edge;
 use std::alloc::{AllocError, Global};
 
-// The edges stand by rising destination, and none has weight 0.
+// Returns whether the successors of the edges rise, and none has weight 0.
 fn is_gathered(edges: &[Edge]) -> bool
     ensures { IsTrue result → RiseFrom 0 edges.now }
 {
@@ -24,7 +24,7 @@ fn is_gathered(edges: &[Edge]) -> bool
     true
 }
 
-// The edges stand by destination.
+// Returns whether the edges are in the order of their successors.
 fn is_ordered(edges: &[Edge]) -> bool
     ensures { IsTrue result → StandFrom 0 edges.now }
 {
@@ -38,7 +38,7 @@ fn is_ordered(edges: &[Edge]) -> bool
     true
 }
 
-// Puts the edges by destination.
+// Puts the edges in the order of their successors.
 fn put_in_order(edges: &mut Vec<Edge>) -> Result<(), AllocError>
     ensures standing { OnOk result (StandFrom 0 edges.new.items) }
     ensures weights { OnOk result ((to : ℕ) → weight_to edges.new.items to ≡ weight_to edges.old.items to) }
@@ -51,7 +51,7 @@ fn put_in_order(edges: &mut Vec<Edge>) -> Result<(), AllocError>
     Ok(())
 }
 
-// Puts an edge behind the others, unless its weight is 0.
+// Appends an edge, unless its weight is 0.
 fn keep(edges: &mut Vec<Edge>, edge: Edge) -> Result<(), AllocError>
     ensures { OnOk result (edges.new.items ≡ edges.old.items ++ keep_edge edge.to edge.weight []) }
 {
@@ -61,7 +61,7 @@ fn keep(edges: &mut Vec<Edge>, edge: Edge) -> Result<(), AllocError>
     Ok(())
 }
 
-// Adds an edge to the sum of the edges to one destination, or keeps that sum and begins a new one.
+// Adds an edge to the sum of the edges to one successor, or keeps that sum and begins a new one.
 fn add_edge(merged: &mut Vec<Edge>, sum: Edge, edge: Edge) -> Result<Edge, AllocError>
     requires { sum.weight + edge.weight < 2 ^ 128 }
     ensures value { IfOk result (λ new. (rest : List Edge) → merged.new.items ++ merged_from new rest ≡ merged.old.items
@@ -78,7 +78,7 @@ fn add_edge(merged: &mut Vec<Edge>, sum: Edge, edge: Edge) -> Result<Edge, Alloc
     Ok(edge)
 }
 
-// Neighbouring edges to one destination added up.
+// Adds up neighbouring edges to one successor.
 fn merge(alloc: Global, edges: &[Edge]) -> Result<Vec<Edge>, AllocError>
     requires { total_of edges.now < 2 ^ 128 }
     ensures { IfOk result (λ new. new.items ≡ merged_from no_edge edges.now) }
@@ -92,7 +92,7 @@ fn merge(alloc: Global, edges: &[Edge]) -> Result<Vec<Edge>, AllocError>
     Ok(merged)
 }
 
-/// Puts the edges by rising destination, those to one destination added up, and none of weight 0.
+/// Puts the edges in the order of their successors. The edges to one successor are added up, and none has weight 0.
 pub fn gather(alloc: Global, edges: &mut Vec<Edge>) -> Result<(), AllocError>
     requires { total_of edges.old.items < 2 ^ 128 }
     ensures value { OnOk result (edges.new.items ≡ gathered edges.old.items) }

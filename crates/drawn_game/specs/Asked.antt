@@ -1,10 +1,10 @@
--- The question about a drawn game.
+-- This module defines the question about a drawn game.
 use Rattle.std.specs.Prelude.{◌≡◌, ◌≤◌, ◌==◌, false, length, map, replicate}
 use Rattle.std.specs.List.{range_with_len}
 use Rattle.game_model.specs.Query.{Query}
 use Rattle.drawn_game.specs.Rules.{SidedGame, goal_of}
 
--- the maximiser wants the goal, and no state is dead
+-- The maximiser wants the goal, and no state is dead.
 abbrev pub question_of : SidedGame → Query
 question_of d = record {
   game = d.game;
@@ -13,7 +13,8 @@ question_of d = record {
   deads = replicate (length d.game) false;
 }
 
--- what every drawn game keeps: each state has a side, and two of them are the goal and the sink
+-- These facts hold for every drawn game: each state has a side, and there are at least two states, the goal and the
+-- sink.
 pub record IsSided (d : SidedGame) : Type 0 where
   pub many : length d.sides ≡ length d.game
   pub enough : 2 ≤ length d.game

@@ -1,4 +1,4 @@
-//! The choices of a state.
+//! This module draws the choices of a state.
 
 ghost use Rattle.std.specs.Prelude.{◌≡◌, ◌+◌, ◌^◌, ◌<◌, ◌≤◌, IfOk, OnOk};
 ghost use Rattle.game_model.specs.Game.{total_of};
@@ -27,7 +27,7 @@ pub fn draw_choice(alloc: Global, draws: &mut Draws, states: u32) -> Result<Choi
     Ok(Choice::of_edges(edges))
 }
 
-/// Adds a part to edges by rising destination.
+/// Adds a part to edges in the order of their successors.
 fn add_part(edges: &mut Vec<Edge>, part: Edge) -> Result<(), AllocError>
     requires { total_of edges.old.items + part.weight < 2 ^ 128 }
     ensures { OnOk result (edges.new.items ≡ with_part edges.old.items part) }

@@ -1,4 +1,4 @@
-//! The game that a seed draws, and the question about it.
+//! This module draws the game of a seed, and asks the question about it.
 
 ghost use Rattle.std.specs.Prelude.{◌≡◌, ◌≤◌, ◌==◌, map, length, IfOk};
 ghost use Rattle.std.specs.List.{range_with_len};
@@ -13,9 +13,9 @@ use game_outside::OutOfMemory;
 use std::alloc::{AllocError, Global};
 use std::marker::Model;
 
-/// A game that a seed drew, with the side that chooses at each state.
+/// This game was drawn by a seed, with the side that chooses at each state.
 ///
-/// State 0 is the initial state. The last state is the sink, and the one before it the goal.
+/// State 0 is the initial state. The last state is the sink, and the state before it is the goal.
 #[derive(Drop)]
 pub struct Drawn {
     game: Game,
@@ -36,29 +36,29 @@ impl Model for Drawn {
 impl Drawn {
     ghost use Rattle.drawn_game.specs.Asked.{question_of, IsSided};
 
-    /// Tells a proof what every drawn game keeps. It does nothing.
+    /// Tells a proof which facts hold for every drawn game. It does nothing.
     pub fn known(&self)
         ensures { IsSided self.now }
     {
         let _ = &self.sides;
     }
 
-    /// The game.
+    /// Returns the game.
     pub fn game(&self) -> &Game
         ensures { result.now ≡ self.now.game }
     {
         &self.game
     }
 
-    /// The side of each state.
+    /// Returns the side of each state.
     pub fn sides(&self) -> &[Side]
         ensures { result.now ≡ self.now.sides }
     {
         &self.sides
     }
 
-    /// The question with which probability the goal is reached, which the maximiser wants. The only error is
-    /// want of memory.
+    /// Returns the question with which probability the goal is reached, which the maximiser wants. It fails only if
+    /// memory runs out.
     pub fn question(&self, alloc: Global) -> Result<Question<'_>, OutOfMemory>
         ensures { IfOk result (λ question. question ≡ question_of self.now) }
     {
@@ -70,7 +70,7 @@ impl Drawn {
     }
 }
 
-/// The marks of one of so many states.
+/// Returns the marks of `states` states, of which one is marked.
 fn marks_of(alloc: Global, marked: u32, states: u32) -> Result<Vec<bool>, AllocError>
     ensures { IfOk result (λ marks. marks.items ≡ map (λ s. s == marked) (range_with_len 0 states)) }
 {
@@ -81,7 +81,7 @@ fn marks_of(alloc: Global, marked: u32, states: u32) -> Result<Vec<bool>, AllocE
     Ok(marks)
 }
 
-/// The game that a seed draws. The only error is want of memory.
+/// Draws the game of a seed. It fails only if memory runs out.
 pub fn draw_game(alloc: Global, seed: u32, states: u32) -> Result<Drawn, OutOfMemory>
     requires seed { (1 ≤ seed) × (seed ≤ most_seed) }
     requires states { (least_states ≤ states) × (states ≤ most_states) }

@@ -1,4 +1,4 @@
-//! The generator, and the parts of a choice.
+//! This module has the generator, and the parts of a choice.
 
 ghost use Rattle.std.specs.Prelude.{◌≡◌, ◌+◌, ◌%◌, ◌<◌, ◌≤◌};
 ghost use Rattle.drawn_game.specs.Drawings.{next_draw};
@@ -9,7 +9,7 @@ use crate::limits::{MODULUS, MULTIPLIER};
 use game_model::Edge;
 use std::marker::Model;
 
-/// The last draw of the generator, at the start the seed.
+/// A generator has its last draw, which at the start is the seed.
 #[derive(Drop)]
 pub struct Draws {
     last: u32,
@@ -24,14 +24,14 @@ impl Model for Draws {
 }
 
 impl Draws {
-    /// No draw so far.
+    /// Returns a generator that has made no draw.
     pub fn from_seed(seed: u32) -> Draws
         ensures { result ≡ seed }
     {
         Draws { last: seed }
     }
 
-    /// The next draw (Lehmer 1951; Park and Miller 1988).
+    /// Makes the next draw (Lehmer 1951; Park and Miller 1988).
     #[tactic(auto, unfolding(crate::specs::Drawings::next_draw))]
     pub fn draw(&mut self) -> u32
         ensures value { result ≡ next_draw self.old }
@@ -41,7 +41,7 @@ impl Draws {
         self.last
     }
 
-    /// The first part of a choice, to the goal or the sink.
+    /// Draws the first part of a choice, to the goal or the sink.
     pub fn first_part(&mut self, states: u32) -> Edge
         requires { least_states ≤ states }
         ensures value { result ≡ (first_part states self.old).value }
@@ -58,7 +58,7 @@ impl Draws {
         Edge { to, weight }
     }
 
-    /// Another part of a choice, to any state.
+    /// Draws another part of a choice, to any state.
     pub fn other_part(&mut self, states: u32) -> Edge
         requires { least_states ≤ states }
         ensures value { result ≡ (other_part states self.old).value }
@@ -71,7 +71,7 @@ impl Draws {
         Edge { to, weight }
     }
 
-    /// A weight, from 1 to 9.
+    /// Draws a weight from 1 to 9.
     fn weight(&mut self) -> u128
         ensures value { result ≡ 1 + next_draw self.old % 9 }
         ensures last { self.new ≡ next_draw self.old }

@@ -1,4 +1,4 @@
-//! Laws of drawn games. Each function does nothing; its contract is the law.
+//! This module has the laws of drawn games. Each function does nothing: its contract is the law.
 
 ghost use Rattle.std.specs.Prelude.{◌≡◌, ℕ, ◌<◌, ◌≤◌, length};
 ghost use Rattle.game_model.specs.Game.{choices_of, choice_of};
@@ -18,13 +18,13 @@ pub fn limits()
     ensures states { LEAST_STATES ≡ least_states }
 {}
 
-/// Behind a number that may be a seed comes another such number, and behind two of them come two.
+/// If a number may be a seed, so may the draw after it. Different such numbers have different draws after them.
 pub fn draws_are_seeds()
     ensures range { (x : ℕ) → 1 ≤ x → x ≤ most_seed → (1 ≤ next_draw x) × (next_draw x ≤ most_seed) }
     ensures apart { (x y : ℕ) → x ≤ most_seed → y ≤ most_seed → next_draw x ≡ next_draw y → x ≡ y }
 {}
 
-/// The worked row, draw by draw by hand: seed 1 and three states.
+/// Seed 1 with three states draws the worked row, which was drawn by hand.
 pub fn worked_row_is_drawn()
     ensures { drawn_game 1 3 ≡ worked_row }
 {}

@@ -1,4 +1,4 @@
-//! The states of a game.
+//! This module draws the states of a game.
 
 ghost use Rattle.std.specs.Prelude.{◌≡◌, ◌≤◌, [], ◌∷◌, ◌++◌, IfOk, OnOk};
 ghost use Rattle.game_model.specs.Draft.{between};
@@ -11,7 +11,7 @@ use game_model::{Choice, Edge, GameBuilder, Side};
 use game_outside::OutOfMemory;
 use std::alloc::{AllocError, Global};
 
-/// Draws a state: its side, and its choices, which go into the builder.
+/// Draws a state: its side, and its choices, which are added to the builder.
 pub fn draw_state(
     alloc: Global,
     draws: &mut Draws,
@@ -35,14 +35,14 @@ pub fn draw_state(
     Ok(side)
 }
 
-/// The side that a draw gives.
+/// Returns the side that a draw gives.
 fn side_drawn(draw: u32) -> Side
     ensures { result ≡ side_of draw }
 {
     if draw % 2 == 0 { Side::Max } else { Side::Min }
 }
 
-/// Adds a state of the maximiser that stays where it is.
+/// Adds a state of the maximiser that leads only to itself.
 pub fn add_stay(
     alloc: Global,
     state: u32,
@@ -60,7 +60,7 @@ pub fn add_stay(
     Ok(())
 }
 
-/// The move of weight 1 to one state.
+/// Returns the choice that has weight 1 to one state.
 fn stay_at(alloc: Global, state: u32) -> Result<Choice, AllocError>
     ensures { IfOk result (λ choice. choice ≡ stay state) }
 {

@@ -1,4 +1,4 @@
-//! Laws of exact values, for every question.
+//! This module has the laws of exact values, for every question.
 
 ghost use Rattle.std.specs.Prelude.{◌≡◌, ℕ, ◌*◌, ◌<◌, ◌≤◌, ◌↔◌, Bool, true, false, List, slice_index_or};
 ghost use Rattle.game_model.specs.Query.{Query, IsQuery, states};
@@ -12,8 +12,8 @@ pub fn questions_have_values()
     ensures { (q : Query) → IsQuery q → HasValues q }
 {}
 
-/// The k-step values come as near to a/b as one likes exactly where the value is at least a/b, and some is above a/b
-/// exactly where the value is. So every threshold is met or not.
+/// The k-step values come as near to a/b as one likes exactly if the value is at least a/b, and some k-step value is
+/// above a/b exactly if the value is above a/b. So every threshold is met or not.
 pub fn values_decide_thresholds()
     ensures reached { (q : Query) (v : HasValues q) (a b s : ℕ) → IsQuery q → s < states q
         → Reaches q a b s ↔ (a * v.top ≤ b * v.value s) }
@@ -31,7 +31,7 @@ pub fn bounds_lie_on_either_side()
         → v.value s * w.top ≡ w.value s * v.top }
 {}
 
-/// Every question has a zero set, and a state is in it exactly where its value is 0.
+/// Every question has a zero set, and a state is in it exactly if its value is 0.
 pub fn questions_have_zero_sets()
     ensures exists { (q : Query) → IsQuery q → (zero : List Bool) × IsZeroSet q zero }
     ensures value { (q : Query) (v : HasValues q) (zero : List Bool) (s : ℕ) → IsQuery q → IsZeroSet q zero

@@ -1,4 +1,4 @@
-//! The exact values of a question.
+//! This crate has the exact values of a question.
 #![tactic(auto)]
 
 pub mod laws;

@@ -1,4 +1,5 @@
--- What a choice gives over a table of units, and the step of a state over values that may rise while they are read.
+-- These definitions say what a choice gives over a table of units, and what the step of a state is over values that may
+-- rise while they are read.
 use Rattle.std.specs.Prelude.{◌≡◌, ℕ, ◌<◌, ◌≤◌, false, length}
 use Rattle.game_model.specs.declared.game.Side.TheVariants.{Max, Min}
 use Rattle.game_model.specs.Game.{choices_of, choice_of}
@@ -6,19 +7,21 @@ use Rattle.game_model.specs.Query.{Query, is_goal, is_dead, side_at}
 use Rattle.game_model.specs.Limits.{unit}
 use Rattle.game_model.specs.Rounded.{down_value, down_step}
 
--- neither a goal nor dead
+-- The state is neither goal nor dead.
 abbrev pub IsFree : Query → ℕ → Type 0
 IsFree q s = (is_goal q s ≡ false) × (is_dead q s ≡ false)
 
--- the choice gives at least the value over a table: at a state of the minimiser it is 0, and every choice does
+-- The choice gives at least the value over a table. At a state of the minimiser it is 0, and every choice gives at
+-- least the value.
 pub record IsGivenBy (q : Query) (table : ℕ → ℕ) (s value choice : ℕ) : Type 0 where
   pub greatest : side_at q s ≡ Max → (choice < length (choices_of q.game s))
       × (value ≤ down_value table (choice_of q.game s choice))
   pub least : side_at q s ≡ Min → (choice ≡ 0) × ((c : ℕ) → c < length (choices_of q.game s)
       → value ≤ down_value table (choice_of q.game s c))
 
--- a value, at least a floor, and a choice for it: at least the step over what was seen before, and where it is above
--- the floor, given by what was seen after; no earlier choice had it before. At the floor the choice is 0.
+-- The value is at least the floor, and at least the step over what was seen before. If it is above the floor, the
+-- choice gives it over what was seen after. Each earlier choice gave less over what was seen before. At the floor the
+-- choice is 0.
 pub record IsStepAbove (q : Query) (old new : ℕ → ℕ) (s floor value choice : ℕ) : Type 0 where
   pub units : value ≤ unit
   pub floored : floor ≤ value

@@ -1,4 +1,4 @@
-//! Lower and upper bounds side by side, and the step of both.
+//! This module keeps lower and upper bounds side by side, and takes the step of both.
 
 ghost use Rattle.std.specs.Prelude.{◌≡◌, ◌<◌, ◌≤◌, length, slice_index, All};
 ghost use Rattle.game_model.specs.Game.{choices_of};
@@ -10,17 +10,17 @@ ghost use Rattle.fixed_bellman.specs.Bounds.{lowers, uppers, AreUnits};
 use crate::bound_sums::quotients;
 use game_model::{Question, Side, UNIT};
 
-/// A lower and an upper bound of the value of a state, in units.
+/// These are a lower and an upper bound of the value of a state, in units.
 #[derive(Clone, Copy)]
 pub struct Bounds {
-    /// The lower bound.
+    /// This is the lower bound.
     pub lower: u64,
-    /// The upper bound.
+    /// This is the upper bound.
     pub upper: u64,
 }
 
-/// The step of both bounds of a state: the down step of the lower bounds, and the up step of the upper ones. It goes
-/// over the edges of each choice once.
+/// Returns the step of both bounds of a state: the down step of the lower bounds, and the up step of the upper ones. It
+/// goes over the edges of each choice once.
 pub fn step_bounds(question: &Question, state: u32, table: &[Bounds]) -> Bounds
     requires state { state < states question.now }
     requires length { length table.now ≡ states question.now }
@@ -44,7 +44,7 @@ pub fn step_bounds(question: &Question, state: u32, table: &[Bounds]) -> Bounds
     }
 }
 
-/// The greatest lower and the greatest upper value of the choices of a state.
+/// Returns the greatest lower and the greatest upper value of the choices of a state.
 fn greatest_bounds(question: &Question, state: u32, table: &[Bounds]) -> Bounds
     requires state { state < states question.now }
     requires length { length table.now ≡ states question.now }
@@ -71,7 +71,7 @@ fn greatest_bounds(question: &Question, state: u32, table: &[Bounds]) -> Bounds
     Bounds { lower, upper }
 }
 
-/// The least lower and the least upper value of the choices of a state.
+/// Returns the least lower and the least upper value of the choices of a state.
 fn least_bounds(question: &Question, state: u32, table: &[Bounds]) -> Bounds
     requires state { state < states question.now }
     requires length { length table.now ≡ states question.now }

@@ -1,4 +1,4 @@
-//! The down step of a table.
+//! This module takes the down step of a table.
 
 ghost use Rattle.std.specs.Prelude.{◌≡◌, ◌<◌, ◌≤◌, ◌⊎◌, length, slice_index, All, MatchOption};
 ghost use Rattle.game_model.specs.Query.{states};
@@ -11,8 +11,8 @@ use crate::above::step_above;
 use crate::values::Entries;
 use game_model::{Question, UNIT};
 
-/// The down step of a table at a state, and at a Max state that is neither goal nor dead the first choice
-/// that gives it. Elsewhere the choice is 0.
+/// Returns the down step of a table at a state. At a Max state that is neither goal nor dead it also returns the first
+/// choice that has this value. Elsewhere the choice is 0.
 pub fn down_state(question: &Question, state: u32, table: &[u64]) -> (u64, u32)
     requires state { state < states question.now }
     requires length { length table.now ≡ states question.now }
@@ -30,8 +30,8 @@ pub fn down_state(question: &Question, state: u32, table: &[u64]) -> (u64, u32)
     table_step_above(question, state, table, 0)
 }
 
-/// The down step of a table at a state, as [`down_state`] has it, where its value is above the entry of the table. A
-/// state that does not rise costs a sum and a comparison for a choice, and no division.
+/// Returns what [`down_state`] returns, if its value is above the entry of the state. A state that does not rise costs
+/// a sum and a comparison for each choice, and no division.
 pub fn raised_state(question: &Question, state: u32, table: &[u64]) -> Option<(u64, u32)>
     requires state { state < states question.now }
     requires length { length table.now ≡ states question.now }
@@ -54,7 +54,7 @@ pub fn raised_state(question: &Question, state: u32, table: &[u64]) -> Option<(u
     }
 }
 
-/// The step of a state over a table, as [`step_above`] has it.
+/// Takes the step of [`step_above`] over a table.
 fn table_step_above(question: &Question, state: u32, table: &[u64], floor: u64) -> (u64, u32)
     requires state { state < states question.now }
     requires free { IsFree question.now state }
@@ -72,7 +72,7 @@ fn table_step_above(question: &Question, state: u32, table: &[u64], floor: u64) 
     step_above(question, &entries, &mut (), state, floor)
 }
 
-/// The step of a goal, where it is above the entry.
+/// Returns the step of a goal if it is above the entry.
 fn raised_goal(entry: u64) -> Option<(u64, u32)>
     requires { entry ≤ unit }
     ensures { MatchOption result (unit ≤ entry) (λ r. (r.0 ≡ unit) × (r.1 ≡ 0) × (entry < r.0)) }

@@ -1,4 +1,5 @@
-//! Whether choices give a state its entry in a table. It compares sums with entries, and divides nothing.
+//! This module says whether choices give a state its entry in a table. It compares sums with entries, and never
+//! divides.
 
 ghost use Rattle.std.specs.Prelude.{◌≡◌, ◌*◌, ◌<◌, ◌≤◌, ◌↔◌, length, slice_index, All, IsTrue};
 ghost use Rattle.game_model.specs.Game.{choice_among};
@@ -11,7 +12,7 @@ use crate::settling::{all_above, some_above};
 use crate::sum::table_quotient;
 use game_model::{Question, Row, Side};
 
-/// Whether the weighted average of a choice of a row over a table is at least this value.
+/// Returns whether the weighted average of a choice of a row over a table is at least this value.
 #[inline(always)]
 pub fn gives(row: &Row<'_>, choice: u32, table: &[u64], value: u64) -> bool
     requires choice { choice < length row.now }
@@ -25,7 +26,7 @@ pub fn gives(row: &Row<'_>, choice: u32, table: &[u64], value: u64) -> bool
     !table_quotient(row, choice, table).down_below(value)
 }
 
-/// Whether the weighted average of a choice of a row over a table is at most this value.
+/// Returns whether the weighted average of a choice of a row over a table is at most this value.
 #[inline(always)]
 pub fn holds(row: &Row<'_>, choice: u32, table: &[u64], value: u64) -> bool
     requires choice { choice < length row.now }
@@ -39,7 +40,7 @@ pub fn holds(row: &Row<'_>, choice: u32, table: &[u64], value: u64) -> bool
     !table_quotient(row, choice, table).up_above(value)
 }
 
-/// Whether the down step of a table at a state is at least its entry.
+/// Returns whether the down step of a table at a state is at least its entry.
 pub fn is_given(question: &Question, state: u32, table: &[u64]) -> bool
     requires state { state < states question.now }
     requires length { length table.now ≡ states question.now }

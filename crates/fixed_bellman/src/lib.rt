@@ -1,14 +1,14 @@
-//! Rounded Bellman steps over tables of units: the operator of value iteration, rounded down for lower
-//! bounds and up for upper bounds (Baier and Katoen 2008, chapter 10).
+//! This crate takes rounded Bellman steps over tables of units. They are the operator of value iteration, rounded down
+//! for lower bounds and up for upper bounds (Baier and Katoen 2008, chapter 10).
 //!
-//! [`down_state`] and [`up_state`] are a step at one state, [`down_choice`] and [`up_choice`] the value of
-//! one choice. Iteration wants less: [`raised_state`] is the down step where it is above the entry of its
-//! table. It compares before it divides, so a state that does not rise costs a sum and a comparison for a
-//! choice, and no division. [`settled`] says that no state rises, [`is_given`] that a state does not fall, and
-//! [`gives`] and [`holds`] that a choice gives a value, at least or at most; none of them divides.
-//! [`step_above`] is the kernel of down steps, over values that may rise while they are read ([`Values`]): a
-//! table, or words that are shared. [`step_bounds`] is the step of lower and upper bounds that lie side by side
-//! ([`Bounds`]). No call takes memory.
+//! [`down_state`] and [`up_state`] give a step at one state, [`down_choice`] and [`up_choice`] the value of one choice.
+//! Iteration needs less: [`raised_state`] gives the down step only if it is above the entry of its table. It compares
+//! before it divides, so a state that does not rise costs a sum and a comparison for each choice, and no division.
+//! [`settled`] says that no state rises, and [`is_given`] that a state does not fall. [`gives`] says that a choice
+//! gives at least a value, and [`holds`] that it gives at most a value. None of these four divides. [`step_above`] is
+//! the kernel of down steps, over values that may rise while they are read ([`Values`]): a table, or words that are
+//! shared. [`step_bounds`] is the step of lower and upper bounds that lie side by side ([`Bounds`]). No call takes
+//! memory.
 #![tactic(auto)]
 
 mod above;

@@ -1,4 +1,4 @@
-//! The value of a choice before it is rounded.
+//! This module keeps the value of a choice before it is rounded.
 
 ghost use Rattle.std.specs.Prelude.{◌≡◌, ◌+◌, ◌*◌, ◌/◌, ◌<◌, ◌≤◌, IsTrue, ◌↔◌};
 ghost use Rattle.game_model.specs.Limits.{unit, total_bound};
@@ -6,16 +6,16 @@ ghost use Rattle.game_model.specs.Limits.{unit, total_bound};
 use game_model::UNIT;
 use std::num::{nearest_u64_to_f64, saturating_f64_to_u64};
 
-/// The greatest total whose product with the unit fits 64 bits.
+/// This is the greatest total whose product with the unit fits 64 bits.
 pub const MOST_NARROW: u128 = 18_446;
 
-/// A word, as a power of two.
+/// This is 2 to the power 64.
 const WORD: u128 = 18_446_744_073_709_551_616;
 
-/// The same in floating point.
+/// This is `WORD` in floating point.
 const FLOAT_WORD: f64 = 18_446_744_073_709_551_616.0;
 
-/// A weighted sum of units over its total. It is compared with no division.
+/// A quotient is a weighted sum of units over its total. It is compared without a division.
 #[derive(Clone, Copy)]
 pub struct Quotient {
     sum: u128,
@@ -28,7 +28,7 @@ pub struct Quotient {
 impl Quotient {
     ghost use Rattle.fixed_bellman.specs.Quotients.{rounded_down, rounded_up};
 
-    /// The quotient of a sum of units and a total.
+    /// Makes the quotient of a sum of units and a total.
     pub fn new(sum: u128, total: u128) -> Quotient
         requires positive { 0 < total }
         requires whole { sum ≤ total * unit }
@@ -39,7 +39,7 @@ impl Quotient {
         Quotient { sum, total }
     }
 
-    /// Rounded down.
+    /// Rounds the quotient down.
     pub fn down(self) -> u64
         ensures value { result ≡ rounded_down self }
         ensures units { result ≤ unit }
@@ -50,7 +50,7 @@ impl Quotient {
         divided(self.sum, self.total)
     }
 
-    /// Rounded up.
+    /// Rounds the quotient up.
     pub fn up(self) -> u64
         ensures value { result ≡ rounded_up self }
         ensures units { result ≤ unit }
@@ -62,7 +62,7 @@ impl Quotient {
         divided(self.sum + (self.total - 1), self.total)
     }
 
-    /// Whether it is above a floor, rounded down.
+    /// Returns whether the quotient, rounded down, is above a floor.
     pub fn down_above(self, floor: u64) -> bool
         requires { floor ≤ unit }
         ensures { IsTrue result ↔ (floor < rounded_down self) }
@@ -73,7 +73,7 @@ impl Quotient {
         self.sum >= (u128::from(floor) + 1) * self.total
     }
 
-    /// Whether it is below a ceiling, rounded down.
+    /// Returns whether the quotient, rounded down, is below a ceiling.
     pub fn down_below(self, ceiling: u64) -> bool
         requires { ceiling ≤ unit }
         ensures { IsTrue result ↔ (rounded_down self < ceiling) }
@@ -84,7 +84,7 @@ impl Quotient {
         self.sum < u128::from(ceiling) * self.total
     }
 
-    /// Whether it is above a floor, rounded up.
+    /// Returns whether the quotient, rounded up, is above a floor.
     pub fn up_above(self, floor: u64) -> bool
         requires { floor ≤ unit }
         ensures { IsTrue result ↔ (floor < rounded_up self) }
@@ -95,7 +95,7 @@ impl Quotient {
         self.sum > u128::from(floor) * self.total
     }
 
-    /// Whether it is below a ceiling, rounded up.
+    /// Returns whether the quotient, rounded up, is below a ceiling.
     pub fn up_below(self, ceiling: u64) -> bool
         requires { ceiling ≤ unit }
         ensures { IsTrue result ↔ (rounded_up self < ceiling) }
@@ -108,7 +108,7 @@ impl Quotient {
     }
 }
 
-/// The quotient of a number by a total, from an estimate. Whatever the estimate is, exact products correct it.
+/// Divides a number by a total, from an estimate. Whatever the estimate is, exact products correct it.
 fn divided(above: u128, total: u128) -> u64
     requires positive { 0 < total }
     requires small { total < total_bound }
@@ -119,19 +119,19 @@ fn divided(above: u128, total: u128) -> u64
     raised(above, total, guess)
 }
 
-/// The quotient in floating point, mostly at most one off.
+/// Estimates the quotient in floating point. It is mostly at most one off.
 fn estimate(above: u128, total: u128) -> u64 {
     saturating_f64_to_u64(float_of(above) / float_of(total))
 }
 
-/// A number in floating point.
+/// Returns a number in floating point.
 fn float_of(number: u128) -> f64 {
     let high = nearest_u64_to_f64((number / WORD) as u64);
     let low = nearest_u64_to_f64((number % WORD) as u64);
     high * FLOAT_WORD + low
 }
 
-/// The first number from a guess downward whose product with the total is not above a number.
+/// Returns the first number from a guess downward whose product with the total is not above a number.
 fn lowered(above: u128, total: u128, mut guess: u64) -> u64
     requires small { total < total_bound }
     requires units { guess ≤ unit }
@@ -144,7 +144,7 @@ fn lowered(above: u128, total: u128, mut guess: u64) -> u64
     guess
 }
 
-/// The quotient of a number by a total, from a guess upward.
+/// Divides a number by a total, from a guess upward.
 fn raised(above: u128, total: u128, mut guess: u64) -> u64
     requires positive { 0 < total }
     requires fits { above < total * (unit + 1) }

@@ -1,11 +1,11 @@
-//! Where the values of states come from.
+//! This module says where the values of states come from.
 
 ghost use Rattle.std.specs.Prelude.{◌≡◌, ℕ, ◌<◌, ◌≤◌, length, slice_index, All};
 ghost use Rattle.game_model.specs.Limits.{unit};
 
-/// The values of states, which may rise while they are read. What was seen of them is in a pass.
+/// The values of states may rise while they are read. A pass records what was seen of them.
 pub trait Values {
-    /// What was seen.
+    /// A pass records what was seen.
     type Pass;
 
     ghost fits: { Self → Self.Pass → ℕ → Type 0 };
@@ -14,7 +14,7 @@ pub trait Values {
 
     ghost onward: { Self → Self.Pass → Self.Pass → Type 0 };
 
-    /// The value of a state.
+    /// Returns the value of a state.
     fn value(&self, pass: &mut Self::Pass, state: u32) -> u64
         requires fits { fits self.now pass.old state }
         ensures onward { onward self.now pass.old pass.new }
@@ -33,7 +33,7 @@ pub trait Values {
     ghost units: { (v : Self) (a : Self.Pass) (s : ℕ) → fits v a s → seen v a s ≤ unit };
 }
 
-/// A slice of units, by state. Its pass says nothing.
+/// The values are a slice of units, by state. Its pass records nothing.
 #[derive(Clone, Copy)]
 pub struct Entries<'a> {
     table: &'a [u64],
@@ -41,7 +41,7 @@ pub struct Entries<'a> {
 }
 
 impl<'a> Entries<'a> {
-    /// The entries of a table.
+    /// Takes the entries of a table.
     pub fn new(table: &'a [u64]) -> Entries<'a>
         requires { All (λ v. v ≤ unit) table.now }
         ensures { result.table.now ≡ table.now }

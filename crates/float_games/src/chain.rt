@@ -1,4 +1,4 @@
-//! The chain of a policy.
+//! A policy makes a chain of a game.
 
 ghost use Rattle.std.specs.Float.{◌≤ᶠ◌, float_zero};
 ghost use Rattle.std.specs.Prelude.{◌≡◌, ◌+◌, ◌^◌, ◌<◌, ◌≤◌, EachIndex, IfOk, length, slice_index, vec_len};
@@ -7,16 +7,17 @@ use crate::game::FloatGame;
 use game_outside::OutOfMemory;
 use std::alloc::Global;
 
-/// How far the edges of a chain lead back and forth in the order of the nodes.
+/// The edges of a chain lead back and forth in the order of the nodes, within a band.
 #[derive(Clone, Copy, Debug, PartialEq, Eq)]
 pub struct Band {
-    /// The most that an edge leads back.
+    /// No edge leads further back.
     pub back: u32,
-    /// The most that an edge leads forth.
+    /// No edge leads further forth.
     pub forth: u32,
 }
 
-/// What is left of a game under a policy: one choice a node. An entry that is no choice counts as the last one.
+/// A chain is what is left of a game under a policy, with one choice for each node. An entry that is no choice counts
+/// as the last one.
 #[derive(Drop)]
 pub struct Chain<'g> {
     game: &'g FloatGame,
@@ -24,7 +25,7 @@ pub struct Chain<'g> {
     ghost as_many: { length policy.now ≡ vec_len game.now.maximises },
 }
 
-/// Where the edges of a node begin and end.
+/// The edges of a node are those of its choice, from `begin` up to `end`.
 #[derive(Clone, Copy)]
 struct Row {
     choice: usize,
@@ -32,13 +33,13 @@ struct Row {
     end: u32,
 }
 
-/// The greatest size of an edge: there are fewer nodes.
+/// No edge leads further: there are at most this many nodes.
 const MOST: usize = 2_147_483_647;
 
 impl<'g> Chain<'g> {
     ghost use Rattle.float_games.specs.Nodes.{nodes_of, nodes_in, choice_in, successors_in, shares_in};
 
-    /// The chain of a policy.
+    /// Returns the chain of a policy.
     pub fn of_policy(game: &'g FloatGame, policy: &'g [u32]) -> Chain<'g>
         requires { length policy.now ≡ nodes_of game.now }
         ensures { nodes_in result ≡ nodes_of game.now }
@@ -46,7 +47,7 @@ impl<'g> Chain<'g> {
         Chain { game, policy }
     }
 
-    /// How many nodes there are.
+    /// Returns how many nodes there are.
     pub fn nodes(&self) -> usize
         ensures value { result ≡ nodes_in self.now }
         ensures few { result < 2 ^ 31 }
@@ -54,7 +55,7 @@ impl<'g> Chain<'g> {
         self.game.maximises.len()
     }
 
-    /// What each node gives, plus a cost.
+    /// Returns what each node gives, plus a cost.
     pub fn gives(&self, alloc: Global, cost: f64) -> Result<Vec<f64>, OutOfMemory>
         ensures { IfOk result (λ list. vec_len list ≡ nodes_in self.now) }
     {
@@ -66,7 +67,7 @@ impl<'g> Chain<'g> {
         Ok(list)
     }
 
-    /// The share of probability with which each node leaves.
+    /// Returns the share of probability with which each node leaves.
     pub fn leaves(&self, alloc: Global) -> Result<Vec<f64>, OutOfMemory>
         ensures { IfOk result (λ list. vec_len list ≡ nodes_in self.now) }
     {
@@ -78,7 +79,7 @@ impl<'g> Chain<'g> {
         Ok(list)
     }
 
-    /// The successors of a node.
+    /// Returns the successors of a node.
     pub fn successors(&self, node: usize) -> &[u32]
         requires { node < nodes_in self.now }
         ensures list { result.now ≡ successors_in self.now node }
@@ -91,7 +92,7 @@ impl<'g> Chain<'g> {
         &self.game.to[row.begin as usize..row.end as usize]
     }
 
-    /// The shares of the edges of a node, in the order of its successors.
+    /// Returns the shares of the edges of a node, in the order of its successors.
     pub fn shares(&self, node: usize) -> &[f64]
         requires { node < nodes_in self.now }
         ensures list { result.now ≡ shares_in self.now node }
@@ -104,7 +105,7 @@ impl<'g> Chain<'g> {
         &self.game.share[row.begin as usize..row.end as usize]
     }
 
-    /// Where the edges of a node lie.
+    /// Finds the choice and the edges of a node.
     fn row(&self, node: usize) -> Row
         requires { node < nodes_in self.now }
         ensures choice { result.choice ≡ choice_in self.now node }
@@ -121,8 +122,8 @@ impl<'g> Chain<'g> {
         }
     }
 
-    /// One pass in place: each value becomes the node's sum, plus the values of its successors by their shares. Gives
-    /// the greatest change.
+    /// Makes one pass in place: each value becomes the node's sum, plus the values of its successors by their shares.
+    /// Returns the greatest change.
     pub fn pass(&self, sums: &[f64], values: &mut [f64]) -> f64
         requires sums { length sums.now ≡ nodes_in self.now }
         requires values { length values.old ≡ nodes_in self.now }
@@ -148,8 +149,7 @@ impl<'g> Chain<'g> {
         change
     }
 
-    /// What one pass in place takes from values, where nodes give nothing: each value, less those of its successors by
-    /// their shares.
+    /// Finds what one pass in place takes from values if nodes give nothing: each value, less its value after the pass.
     pub fn taken_by_pass(&self, values: &[f64], taken: &mut [f64])
         requires values { length values.now ≡ nodes_in self.now }
         requires taken { length taken.old ≡ nodes_in self.now }
@@ -173,8 +173,9 @@ impl<'g> Chain<'g> {
         }
     }
 
-    /// What each value misses: what its node gives and its successors have more, by their shares, less what the value
-    /// has where the node leaves. From differences it is nearly exact.
+    /// Returns what each value misses: what its node gives, and what its successors have more, by their shares, less
+    /// what the value has by the share with which the node leaves. The sum is made from differences, so it is nearly
+    /// exact.
     pub fn residuals(&self, alloc: Global, values: &[f64]) -> Result<Vec<f64>, OutOfMemory>
         requires { length values.now ≡ nodes_in self.now }
         ensures { IfOk result (λ list. vec_len list ≡ nodes_in self.now) }
@@ -186,7 +187,7 @@ impl<'g> Chain<'g> {
         Ok(list)
     }
 
-    /// What the value of a node misses.
+    /// Returns what the value of a node misses.
     fn residual(&self, values: &[f64], node: usize) -> f64
         requires values { length values.now ≡ nodes_in self.now }
         requires node { node < nodes_in self.now }
@@ -201,7 +202,7 @@ impl<'g> Chain<'g> {
         sum
     }
 
-    /// How far the edges lead back and forth.
+    /// Finds how far the edges lead back and forth.
     pub fn band(&self) -> Band
         ensures back { result.back < 2 ^ 31 }
         ensures forth { result.forth < 2 ^ 31 }

@@ -1,4 +1,4 @@
-//! A game under way.
+//! A game is made from a draft.
 
 ghost use Rattle.std.specs.Prelude.{◌≡◌, ◌+◌, ◌≤◌, IfOk, IfSome, OnOk, if◌then◌else◌};
 
@@ -6,11 +6,11 @@ use crate::game::{FloatGame, Lists, NO_MARK};
 use game_outside::OutOfMemory;
 use std::alloc::Global;
 
-/// A game under way: the nodes that have ended, the choices so far of the next one, and what the next choice has so
-/// far: the sum of its weights, of those that leave, and of these times their values.
+/// A draft has the nodes that have ended, the choices so far of the next node, and the sums of the next choice so far:
+/// of its weights, of the weights that leave, and of these times their values.
 ///
-/// The edges of a choice come first, and then its end; the choices of a node, and then its end. What leads back to its
-/// own node is left out: the rest is scaled up.
+/// The edges of a choice come first, and then its end. The choices of a node come first, and then its end. An edge back
+/// to its own node is left out, and the rest is scaled up.
 #[derive(Drop)]
 pub struct Draft {
     lists: Lists,
@@ -23,8 +23,8 @@ pub struct Draft {
 impl Draft {
     ghost use Rattle.float_games.specs.Nodes.{nodes_of, choices_of, ended_nodes, ended_choices};
 
-    /// Nothing so far, with room for so many nodes, choices and edges. The only error of this and the other calls is
-    /// want of memory; more than 2^32 - 1 choices or edges count as that.
+    /// Makes an empty draft, with room for this many nodes, choices and edges. The only error of this and the other
+    /// calls is that memory ran out. More than 2^32 - 1 choices or edges are the same error.
     pub fn new(
         alloc: Global,
         nodes: usize,
@@ -56,14 +56,14 @@ impl Draft {
         })
     }
 
-    /// How many choices have ended: the number of the next one.
+    /// Returns how many choices have ended, which is the number of the next one.
     pub fn choices(&self) -> usize
         ensures { result ≡ ended_choices self.now }
     {
         self.lists.gives.len()
     }
 
-    /// An edge of the choice under way to a node, with its weight. Edges to the node under way are left out.
+    /// Adds an edge of the present choice to a node, with its weight. An edge to the present node is left out.
     pub fn add_edge(&mut self, to: u32, weight: f64) -> Result<(), OutOfMemory>
         ensures nodes { ended_nodes self.new ≡ ended_nodes self.old }
         ensures choices { ended_choices self.new ≡ ended_choices self.old }
@@ -77,7 +77,7 @@ impl Draft {
         Ok(())
     }
 
-    /// What the choice under way gives where it leaves with this weight: a value in units.
+    /// Adds an exit: the present choice leaves with this weight, and then gives this value in units.
     pub fn add_exit(&mut self, weight: f64, value: f64)
         ensures nodes { ended_nodes self.new ≡ ended_nodes self.old }
         ensures choices { ended_choices self.new ≡ ended_choices self.old }
@@ -87,9 +87,9 @@ impl Draft {
         self.given += weight * value;
     }
 
-    /// Ends the choice under way: weights become shares. By its mark who made the game knows it again, as by its place
-    /// among the choices of its state. One that leads nowhere but to its own node is left out; the answer is whether it
-    /// is in.
+    /// Ends the present choice: its weights become shares. The caller knows the choice by its mark, such as its place
+    /// among the choices of its state. A choice that leads only to its own node is left out. The answer says whether
+    /// the choice is in the game.
     pub fn end_choice(&mut self, mark: u32) -> Result<bool, OutOfMemory>
         ensures nodes { ended_nodes self.new ≡ ended_nodes self.old }
         ensures one { IfOk result (λ b. ended_choices self.new ≡ ended_choices self.old + (if b then 1 else 0)) }
@@ -112,7 +112,7 @@ impl Draft {
         Ok(is_in)
     }
 
-    /// Ends the node under way, which this side owns. One without a choice gets one that leaves with the value 0 and
+    /// Ends the present node, which this side owns. If it has no choice, it gets one that leaves with the value 0 and
     /// has no mark.
     pub fn end_node(&mut self, maximises: bool) -> Result<(), OutOfMemory>
         ensures one { OnOk result (ended_nodes self.new ≡ ended_nodes self.old + 1) }
@@ -129,7 +129,8 @@ impl Draft {
         Ok(())
     }
 
-    /// The game of the nodes that have ended, or nothing where an edge leads to no node.
+    /// Makes the game of the nodes that have ended. There is none if an edge leads to no node, or if there are 2^31
+    /// nodes or more.
     pub fn finish(self) -> Option<FloatGame>
         ensures nodes { IfSome result (λ g. nodes_of g ≡ ended_nodes self) }
         ensures choices { IfSome result (λ g. choices_of g ≡ ended_choices self) }
@@ -145,7 +146,7 @@ fn divide_from(shares: &mut [f64], begin: usize, total: f64) {
     }
 }
 
-/// A number that fits 32 bits.
+/// Returns a number that fits 32 bits, or an error.
 fn number_of(count: usize) -> Result<u32, OutOfMemory>
     ensures { IfOk result (λ n. n ≡ count) }
 {

@@ -1,4 +1,4 @@
-//! A game in flat lists.
+//! A game is kept in flat lists.
 
 ghost use Rattle.std.specs.Prelude.{◌≡◌, ◌+◌, ◌^◌, ◌<◌, ◌≤◌, ◌↔◌, ◌&&◌, true, false, EachIndex, IfOk, IfSome, IsTrue};
 ghost use Rattle.float_games.specs.Owners.{is_among};
@@ -7,10 +7,10 @@ ghost use Rattle.std.specs.Prelude.{slice_index, vec_len};
 use game_outside::OutOfMemory;
 use std::alloc::Global;
 
-/// A game of nodes, choices and edges, in flat lists: the choices of a node are those from its entry in `choice_starts`
-/// up to the next one, and the edges of a choice those from its entry in `edge_starts` up to the next one. A choice
-/// gives so many units where it leaves, and leaves with this share of probability; its edges have the rest. Its mark
-/// says whose choice it is.
+/// A game of nodes, choices and edges is kept in flat lists. The choices of a node are those from its entry in
+/// `choice_starts` up to the next entry. The edges of a choice are those from its entry in `edge_starts` up to the next
+/// entry. A choice leaves with a share of probability, and its edges have the rest. It gives the sum of the values, in
+/// units, to which it leaves, each times its share. Its mark says whose choice it is.
 #[derive(Drop)]
 pub struct FloatGame {
     pub(crate) choice_starts: Vec<u32>,
@@ -35,7 +35,7 @@ pub struct FloatGame {
     ghost inside: { EachIndex to.items (λ k. slice_index to.items k < vec_len maximises) },
 }
 
-/// The lists of a game, which need not fit each other.
+/// These are the lists of a game, which need not fit each other.
 #[derive(Drop)]
 pub(crate) struct Lists {
     pub choice_starts: Vec<u32>,
@@ -48,16 +48,16 @@ pub(crate) struct Lists {
     pub maximises: Vec<bool>,
 }
 
-/// The mark of a choice that has none.
+/// This mark says that a choice has none.
 pub const NO_MARK: u32 = 4_294_967_295;
 
-/// The most nodes, and one more.
+/// A game has fewer nodes.
 const FEW: usize = 2_147_483_648;
 
 impl FloatGame {
     ghost use Rattle.float_games.specs.Nodes.{nodes_of, choices_of, edges_of, mark_of, owner_of, has_both};
 
-    /// The game of these lists, if they fit each other and each index in them is in range.
+    /// Makes the game of these lists, if they fit each other and each index in them is in range.
     pub(crate) fn checked(lists: Lists) -> Option<FloatGame>
         ensures nodes { IfSome result (λ g. nodes_of g ≡ vec_len lists.maximises) }
         ensures choices { IfSome result (λ g. choices_of g ≡ vec_len lists.gives) }
@@ -100,7 +100,7 @@ impl FloatGame {
         })
     }
 
-    /// How many nodes there are.
+    /// Returns how many nodes there are.
     pub fn nodes(&self) -> usize
         ensures value { result ≡ nodes_of self.now }
         ensures few { result < 2 ^ 31 }
@@ -108,35 +108,36 @@ impl FloatGame {
         self.maximises.len()
     }
 
-    /// How many choices there are.
+    /// Returns how many choices there are.
     pub fn choices(&self) -> usize
         ensures { result ≡ choices_of self.now }
     {
         self.gives.len()
     }
 
-    /// How many edges there are.
+    /// Returns how many edges there are.
     pub fn edges(&self) -> usize
         ensures { result ≡ edges_of self.now }
     {
         self.to.len()
     }
 
-    /// The mark of a choice; [`NO_MARK`] where it is none of the game, or was put in for a node that had none.
+    /// Returns the mark of a choice, or [`NO_MARK`] if it is no choice of the game, or was added for a node that had
+    /// none.
     pub fn mark(&self, choice: u32) -> u32
         ensures { result ≡ mark_of self.now choice }
     {
         self.marks.get(choice as usize).copied().unwrap_or(NO_MARK)
     }
 
-    /// Whether both sides own nodes.
+    /// Returns whether both sides own nodes.
     pub fn has_both_sides(&self) -> bool
         ensures { result ≡ has_both self.now }
     {
         self.both
     }
 
-    /// Whether the maximiser owns a node.
+    /// Returns whether the maximiser owns a node.
     pub fn maximises(&self, node: usize) -> bool
         requires { node < nodes_of self.now }
         ensures { owner_of self.now node ≡ Some result }
@@ -144,7 +145,7 @@ impl FloatGame {
         self.maximises[node]
     }
 
-    /// The policy of the first choices.
+    /// Returns the policy of the first choices.
     pub fn first_policy(&self, alloc: Global) -> Result<Vec<u32>, OutOfMemory>
         ensures { IfOk result (λ p. vec_len p ≡ nodes_of self.now) }
     {
@@ -156,21 +157,21 @@ impl FloatGame {
     }
 }
 
-/// Whether some entry is this one.
+/// Returns whether some entry is this one.
 fn has(entries: &[bool], wanted: bool) -> bool
     ensures { result ≡ is_among wanted entries.now }
 {
     entries.iter().any(|entry| *entry == wanted)
 }
 
-/// Whether each entry is at most this bound.
+/// Returns whether each entry is at most this bound.
 fn are_at_most(entries: &[u32], bound: usize) -> bool
     ensures { IsTrue result ↔ EachIndex entries.now (λ k. slice_index entries.now k ≤ bound) }
 {
     entries.iter().all(|entry| *entry as usize <= bound)
 }
 
-/// Whether each entry is below this bound.
+/// Returns whether each entry is below this bound.
 fn are_below(entries: &[u32], bound: usize) -> bool
     ensures { IsTrue result ↔ EachIndex entries.now (λ k. slice_index entries.now k < bound) }
 {

@@ -1,4 +1,4 @@
-//! Sweeps of rounded steps over whole units.
+//! Sweeps take rounded steps over whole units.
 
 ghost use Rattle.std.specs.Prelude.{◌≡◌, ◌<◌, ◌≤◌, length, vec_len};
 ghost use Rattle.float_games.specs.Units.{IsInUnits};
@@ -7,34 +7,35 @@ use crate::UNIT;
 use crate::game::FloatGame;
 use crate::sweeps::bounded;
 
-/// Which bound a table is.
+/// A table is a lower or an upper bound.
 #[derive(Clone, Copy, Debug, PartialEq, Eq)]
 pub enum Bound {
-    /// The lower one: an entry is at most what the maximiser's choice and each of the minimiser's give.
+    /// Each entry of a lower bound is at most what the maximiser's choice and each choice of the minimiser give.
     Lower,
-    /// The upper one: an entry is at least what the minimiser's choice and each of the maximiser's give.
+    /// Each entry of an upper bound is at least what the minimiser's choice and each choice of the maximiser give.
     Upper,
 }
 
-/// What a sweep of rounded steps did: how many values it changed, and how many choices it looked at.
+/// A sweep of rounded steps counts the values that it changed and the choices that it looked at.
 #[derive(Clone, Copy, Debug, PartialEq, Eq)]
 pub struct Rounded {
-    /// How many values changed.
+    /// This many values changed.
     pub changed: usize,
-    /// How many choices were looked at.
+    /// This many choices were looked at.
     pub looked: u64,
 }
 
-/// What sums of differences may be off by: values are whole units.
+/// Sums of differences may be off by so much, since values are whole units.
 const OFF: f64 = 0.3;
 
-/// What values may be off by, in units: floats of this size are an eighth apart.
+/// Values may be off by this many units, since floats of this size are an eighth apart.
 const VALUE_OFF: f64 = 0.25;
 
-/// 2^52 and half of it: behind a sum with it a float below 2^51 in size has no fraction.
+/// This is 2^52 and half of it. If it is added to a float below 2^51 in size, the sum has no fraction.
 const SHIFT: f64 = 6_755_399_441_055_744.0;
 
-/// A value as whole units from 0 to the unit, on the side of the bound. One that is nearly whole becomes that number.
+/// Rounds a value to whole units from 0 to the unit, on the side of the bound. A nearly whole value becomes that
+/// number.
 pub fn whole_units(bound: Bound, value: f64) -> f64
     ensures { IsInUnits result }
 {
@@ -44,13 +45,13 @@ pub fn whole_units(bound: Bound, value: f64) -> f64
     })
 }
 
-/// The greatest whole number that is not above a float below 2^51 in size.
+/// Returns the greatest whole number that is not above a float below 2^51 in size.
 fn floor_of(x: f64) -> f64 {
     let whole = (x + SHIFT) - SHIFT;
     if whole > x { whole - 1.0 } else { whole }
 }
 
-/// The least whole number that is not below a float below 2^51 in size.
+/// Returns the least whole number that is not below a float below 2^51 in size.
 fn ceil_of(x: f64) -> f64 {
     let whole = (x + SHIFT) - SHIFT;
     if whole < x { whole + 1.0 } else { whole }
@@ -59,9 +60,9 @@ fn ceil_of(x: f64) -> f64 {
 impl FloatGame {
     ghost use Rattle.float_games.specs.Nodes.{nodes_of};
 
-    /// One sweep in place over whole units: each entry that is on the wrong side of what a choice gives moves there, a
-    /// lower one down and an upper one up, over the policy's choice at nodes of the side that plays it, and over each
-    /// choice of the other side.
+    /// Makes one sweep in place over whole units. An entry that is on the wrong side of what a choice gives moves
+    /// there: down for a lower bound, and up for an upper bound. At nodes of the side that plays the policy only the
+    /// policy's choice counts. At the other nodes each choice counts.
     pub fn sweep_rounded(&self, bound: Bound, values: &mut [f64], policy: &[u32]) -> Rounded
         requires values { length values.old ≡ nodes_of self.now }
         requires policy { length policy.now ≡ nodes_of self.now }

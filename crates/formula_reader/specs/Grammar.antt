@@ -1,4 +1,5 @@
--- The grammar of formulas, read from the left: the tree that tokens spell and the tokens behind it, or the first fault.
+-- The grammar of formulas is read from the left: this gives the tree that tokens spell and the tokens behind it, or the
+-- first fault.
 use Rattle.std.specs.Prelude.{ℕ, zero, suc, ◌||◌, nat_lt, Bool, false, List, [], ◌∷◌, length, ◌-◌}
 use Rattle.std.specs.Prelude.{Option, Some, None, Result, Ok, Err, if◌then◌else◌, bytes_eq, codes}
 use Rattle.fractions.specs.Fraction.{Fraction}
@@ -24,20 +25,20 @@ use Rattle.formula_tokens.specs.Tokens.{Tokens, Finish, Broken, Then, Token, tok
 
 -- coalition = "<<" [ word { "," word } ] ">>"
 
--- a name, and the names that are read behind it
+-- This is a name, and the names that are read behind it.
 abbrev pub with_name : List ℕ → Result (List (List ℕ) × Tokens) FormulaFault
     → Result (List (List ℕ) × Tokens) FormulaFault
 with_name name read = read >>= λ names. Ok (name ∷ names.0, names.1)
 
 abbrev mutual
-  -- a name, and what stands behind it
+  -- This reads a name and what comes behind it.
   pub names : Reading (List (List ℕ))
   names (Finish place) = Err (fault_at place End)
   names (Broken fault) = Err fault
   names (Then place word rest) = if is_word word then with_name word (further_names rest) else Err
       (fault_at place Unexpected)
 
-  -- `,` and a further name, or `>>`
+  -- This reads `,` and a further name, or `>>`.
   pub further_names : Reading (List (List ℕ))
   further_names (Finish place) = Err (fault_at place End)
   further_names (Broken fault) = Err fault
@@ -46,12 +47,12 @@ abbrev mutual
       else if bytes_eq sign (codes ",") then names rest
       else Err (fault_at place Unexpected)
 
--- the names that are read, as those of a coalition
+-- The names that are read are those of a coalition.
 abbrev pub some_names : Result (List (List ℕ) × Tokens) FormulaFault
     → Result (Option (List (List ℕ)) × Tokens) FormulaFault
 some_names read = read >>= λ names. Ok (Some names.0, names.1)
 
--- the players of a coalition between `<<` and `>>`, and none where no `<<` stands next
+-- This reads the players of a coalition between `<<` and `>>`. It reads nothing if `<<` does not come next.
 abbrev pub coalition : Reading (Option (List (List ℕ)))
 coalition ts =
     where_next (follows (codes "<<") ts) (Ok (None, ts))
@@ -59,22 +60,22 @@ coalition ts =
 
 -- bound = "P" ( ">=" | ">" | "<=" | "<" ) number | "Pmax" "=?" | "Pmin" "=?"
 
--- a number, which is at most 1
+-- A number is a threshold if it is at most 1.
 abbrev pub threshold_of : Token → Result Fraction NumberFault → Result Fraction FormulaFault
 threshold_of token (Ok value) = if nat_lt value.den value.num then fails token ThresholdOutOfRange else Ok value
 threshold_of token (Err TooLarge) = fails token ThresholdOutOfRange
 threshold_of token (Err fault) = fails token (BadNumber fault)
 
--- the threshold that a token spells, or what is wrong with it
+-- This is the threshold that a token spells, or what is wrong with it.
 abbrev pub threshold : Token → Result Fraction FormulaFault
 threshold token = if is_number token.spelling then threshold_of token
     (number_said token.spelling) else fails token Unexpected
 
--- the threshold behind a sign of comparison, as a bound of this kind
+-- This reads the threshold behind a sign of comparison, as a bound of this kind.
 abbrev pub compared : (Fraction → Bound) → Reading Bound
 compared bound ts = next ts >>= λ token. threshold token >>= λ value. Ok (bound value, token.after)
 
--- what stands behind `P`: a sign of comparison and a threshold
+-- This reads what comes behind `P`: a sign of comparison and a threshold.
 abbrev pub comparison : Reading Bound
 comparison ts = next ts >>= λ sign.
     if is sign (codes ">=") then compared (λ p. AtLeast p) sign.after
@@ -83,11 +84,11 @@ comparison ts = next ts >>= λ sign.
     else if is sign (codes "<") then compared (λ p. Below p) sign.after
     else fails sign Unexpected
 
--- what stands behind `Pmax` and `Pmin`: `=?`, which asks for the value
+-- This reads what comes behind `Pmax` and `Pmin`: `=?`, which asks for the value.
 abbrev pub asked : Bound → Reading Bound
 asked bound ts = behind (codes "=?") ts >>= λ after. Ok (bound, after)
 
--- of a formula that stands inside no other: a comparison with a threshold, or a question for a value
+-- This reads the bound of a formula that is inside no other: it compares with a threshold, or asks for a value.
 abbrev pub bound : Reading Bound
 bound ts = next ts >>= λ token.
     if is token (codes "P") then comparison token.after
@@ -95,42 +96,43 @@ bound ts = next ts >>= λ token.
     else if is token (codes "Pmin") then asked AskMin token.after
     else fails token Unexpected
 
--- of a formula inside: a comparison alone
+-- This reads the bound of a formula inside, which can only compare with a threshold.
 abbrev pub inner_bound : Reading Bound
 inner_bound ts = next ts >>= λ token.
     if is token (codes "P") then comparison token.after
     else if is token (codes "Pmax") || is token (codes "Pmin") then fails token AskInside
     else fails token Unexpected
 
--- path = "F" [ "<=" number ] state | state "U" [ "<=" number ] state | "X" state | "G" state, where state reads a state
--- formula
+-- path = "F" [ "<=" number ] state | state "U" [ "<=" number ] state | "X" state | "G" state, where `state` reads a
+-- state formula
 
--- a whole number, which is not too great
+-- A whole number is a number of steps if it is not too great.
 abbrev pub steps_of : Token → Option ℕ → Result ℕ FormulaFault
 steps_of token None = fails token BadSteps
 steps_of token (Some k) = if nat_lt most_steps k then fails token BadSteps else Ok k
 
--- the number of steps that a token spells, or what is wrong with it
+-- This is the number of steps that a token spells, or what is wrong with it.
 abbrev pub steps : Token → Result ℕ FormulaFault
 steps token = if is_number token.spelling then steps_of token (number_of token.spelling) else fails token Unexpected
 
--- what stands behind `<=`
+-- This reads what comes behind `<=`.
 abbrev pub within : Reading PathKind
 within ts = next ts >>= λ token. steps token >>= λ k. Ok (Within k, token.after)
 
--- [ "<=" number ]
+-- This reads [ "<=" number ].
 abbrev pub deadline : Reading PathKind
 deadline ts = where_next (follows (codes "<=") ts) (Ok (Until, ts)) within
 
--- the right side
+-- This reads the right side of a path.
 abbrev pub right_side : Reading State → PathKind → State → Reading Path
 right_side state kind left ts = state ts >>= λ right. Ok (record { kind = kind; left = left; right = right.0 }, right.1)
 
--- what stands behind `F` or `U`
+-- This reads what comes behind `F` or `U`.
 abbrev pub reached : Reading State → State → Reading Path
 reached state left ts = deadline ts >>= λ kind. right_side state kind.0 left kind.1
 
--- what is asked of a path, and its two sides, which state reads; of `F`, `X` and `G` the left side is `true`
+-- This reads what is asked of a path, and its two sides, which `state` reads. The left side of `F`, `X` and `G` is
+-- `true`.
 abbrev pub path : Reading State → Reading Path
 path state ts = next ts >>= λ token.
     if is token (codes "F") then reached state True token.after
@@ -138,18 +140,18 @@ path state ts = next ts >>= λ token.
     else if is token (codes "G") then right_side state Always True token.after
     else state ts >>= λ left. behind (codes "U") left.1 >>= λ after. reached state left.0 after
 
--- behind a path, the `]` that closes it
+-- This reads a path, and the `]` that closes it.
 abbrev pub bracketed : Reading State → Token → Result (Path × Tokens) FormulaFault
 bracketed state token = path state token.after >>= λ p. behind (codes "]") p.1 >>= λ after. Ok (p.0, after)
 
 -- unary = "!" unary | "(" state ")" | "true" | "false" | quoted name | formula, whose bound is a comparison
 
--- what begins a formula inside
+-- The token begins a formula inside.
 abbrev pub begins_formula : Token → Bool
 begins_formula token = is token (codes "P") || is token (codes "Pmax") || is token (codes "Pmin")
     || is token (codes "<<")
 
--- a state formula of one token: `true`, `false` or the name of a label
+-- This reads a state formula of one token: `true`, `false` or the name of a label.
 abbrev pub plain : Token → Result (State × Tokens) FormulaFault
 plain token =
     if is token (codes "true") then Ok (True, token.after)
@@ -157,24 +159,24 @@ plain token =
     else if is_quoted token.spelling then Ok (Label (unquoted token.spelling), token.after)
     else fails token Unexpected
 
--- the token is a sign that opens a state formula: `!` or `(`
+-- The token is a sign that opens a state formula: `!` or `(`.
 abbrev pub opens : Token → Bool
 opens token = is token (codes "!") || is token (codes "(")
 
--- What signs that open lead to: a `!` or a `(` to a state formula, the `[` of a formula to its path and `]`.
+-- Opening signs lead to this: a `!` or a `(` to a state formula, and the `[` of a formula to its path and `]`.
 pub record Inside : Type 0 where
   pub state : Token → Result (State × Tokens) FormulaFault
   pub path : Token → Result (Path × Tokens) FormulaFault
 
--- "[" path "]"
+-- This reads "[" path "]".
 abbrev pub sides : Inside → Reading Path
 sides inside ts = next ts >>= λ token. if is token (codes "[") then inside.path token else fails token Unexpected
 
--- a formula of its parts
+-- This is the formula of these parts.
 abbrev pub tree_with : Option (List (List ℕ)) → Bound → Path → Tree
 tree_with team asks p = record { coalition = team; bound = asks; kind = p.kind; left = p.left; right = p.right }
 
--- a formula inside a state formula: a coalition where there is one, a comparison, and a path
+-- This reads a formula inside a state formula: a coalition if one is named, a comparison, and a path.
 abbrev pub inner : Inside → Reading State
 inner inside ts = do
   team ← coalition ts
@@ -182,20 +184,20 @@ inner inside ts = do
   p ← sides inside asks.1
   Ok (inner_of (tree_with team.0 asks.0 p.0), p.1)
 
--- an operand, which has no operator outside of brackets but `!`
+-- This reads an operand, which has no operator outside of brackets but `!`.
 abbrev pub unary : Inside → Reading State
 unary inside ts = next ts >>= λ token. if opens token then inside.state token else if begins_formula token then inner
     inside ts else plain token
 
--- Further operands, each behind a sign, which groups to the left. Their number is below the number of tokens that are
--- left.
+-- This reads further operands, each behind a sign, and groups them to the left. Their number is at most that of the
+-- tokens that are left.
 abbrev pub further : List ℕ → (State → State → State) → Reading State → ℕ → State → Reading State
 further sign join operand zero left ts = Ok (left, ts)
 further sign join operand (suc most) left ts =
     where_next (follows sign ts) (Ok (left, ts))
     (λ after. operand after >>= λ right. further sign join operand most (join left right.0) right.1)
 
--- operand { sign operand }
+-- This reads operand { sign operand }.
 abbrev pub joined : List ℕ → (State → State → State) → Reading State → Reading State
 joined sign join operand ts = operand ts >>= λ left. further sign join operand (count_of left.1) left.0 left.1
 
@@ -211,43 +213,43 @@ either operand = joined (codes "|") Or (both operand)
 abbrev pub implied : Reading State → Reading State
 implied operand = joined (codes "=>") Implies (either operand)
 
--- the negation of the state formula that is read
+-- This is the negation of the state formula that is read.
 abbrev pub negated : Result (State × Tokens) FormulaFault → Result (State × Tokens) FormulaFault
 negated read = read >>= λ x. Ok (Not x.0, x.1)
 
--- behind a state formula, the `)` that closes it
+-- Behind the state formula that is read comes the `)` that closes it.
 abbrev pub closed : Result (State × Tokens) FormulaFault → Result (State × Tokens) FormulaFault
 closed read = read >>= λ x. behind (codes ")") x.1 >>= λ after. Ok (x.0, after)
 
--- what a `!` or a `(` begins, where inside reads what stands in it
+-- This is what a `!` or a `(` begins, if `inside` reads what is in it.
 abbrev pub inside_of : Inside → Token → Result (State × Tokens) FormulaFault
 inside_of inside token = if is token (codes "!") then negated (unary inside token.after) else closed
     (implied (unary inside) token.after)
 
--- What they lead to where so many more `!`, `(` and `[` may be open at once.
+-- Opening signs lead to this if this many more `!`, `(` and `[` may be open at once.
 unfoldable pub nested : ℕ → Inside
 nested zero = record { state = λ token. fails token TooDeep; path = λ token. fails token TooDeep }
 nested (suc room) = record { state = inside_of (nested room); path = bracketed (implied (unary (nested room))) }
 
--- formula = [ coalition ] bound "[" path "]", and nothing behind it
+-- formula = [ coalition ] bound "[" path "]", and no token behind it
 
--- the tree of a formula, behind which no token may stand
+-- The tree is that of a formula, unless a token comes behind it.
 abbrev pub finished : Tree → Tokens → Result Tree FormulaFault
 finished tree (Finish place) = Ok tree
 finished tree (Broken fault) = Err fault
 finished tree (Then place spelling rest) = Err (fault_at place Unexpected)
 
--- this `[` is not among those that are counted
+-- This reads the sides of a formula and its end. Its `[` is not among those that are counted.
 abbrev pub behind_bound : Option (List (List ℕ)) → Bound → Tokens → Result Tree FormulaFault
 behind_bound team asks ts = sides (nested (suc most_nested)) ts >>= λ p. finished (tree_with team asks p.0) p.1
 
--- the formula that the tokens spell from the first to the last, or the first fault
+-- This is the formula that the tokens spell from the first to the last, or the first fault.
 abbrev pub formula : Tokens → Result Tree FormulaFault
 formula ts = do
   team ← coalition ts
   asks ← bound team.1
   behind_bound team.0 asks.0 asks.1
 
--- The formula that a text spells, or its first fault.
+-- This is the formula that a text spells, or its first fault.
 unfoldable pub formula_said : List ℕ → Result Tree FormulaFault
 formula_said text = if nat_lt longest (length text) then Err (fault_at longest TooLong) else formula (tokens_of text)

@@ -1,10 +1,11 @@
--- The limits of formulas.
+-- These are the limits of formulas.
 use Rattle.std.specs.Prelude.{ℕ}
 
--- the most `(`, `!` and `[` of formulas inside that may be open at once: each is a call deeper for who reads
+-- At most this many `(`, `!` and `[` of formulas inside may be open at once, because each is one call deeper for the
+-- reader.
 abbrev pub most_nested : ℕ
 most_nested = 64
 
--- the most steps of `F<=` and `U<=`: each is a sweep over all states of a model
+-- `F<=` and `U<=` have at most this many steps, because each is a sweep over all states of a model.
 abbrev pub most_steps : ℕ
 most_steps = 1000000

@@ -1,4 +1,4 @@
--- The grammar of formulas as rules: which lists of tokens spell which tree.
+-- The grammar of formulas is given by rules, which say which lists of tokens spell which tree.
 use Rattle.std.specs.Prelude.{◌≡◌, ◌≤◌, ℕ, suc, true, List, [], ◌∷◌, ◌++◌, length, Option, Some, None, codes}
 use Rattle.std.specs.List.{AllByRecursion}
 use Rattle.fractions.specs.Fraction.{Fraction}
@@ -14,17 +14,17 @@ use Rattle.formula_tokens.specs.TokenRules.{AreCut}
 use Rattle.text_lines.specs.Text.{number_of}
 use Rattle.formula_tokens.specs.Reading.{is_word, is_number, is_quoted, unquoted}
 
--- a token between two others
+-- This is a token between two lists of tokens.
 abbrev pub between : List (List ℕ) → List ℕ → List (List ℕ) → List (List ℕ)
 between ts token us = ts ++ token ∷ us
 
--- names with a comma between each two
+-- These are names with a comma between each two.
 abbrev pub with_commas : List (List ℕ) → List (List ℕ)
 with_commas [] = []
 with_commas (name ∷ []) = name ∷ []
 with_commas (name ∷ other ∷ names) = name ∷ codes "," ∷ with_commas (other ∷ names)
 
--- the token is a word, as the name of a player is
+-- The token is a word, as the name of a player is.
 abbrev pub IsWord : List ℕ → Type 0
 IsWord token = is_word token ≡ true
 
@@ -33,13 +33,13 @@ abbrev pub IsCoalition : List (List ℕ) → Option (List (List ℕ)) → Type 0
 IsCoalition ts None = ts ≡ []
 IsCoalition ts (Some names) = (ts ≡ codes "<<" ∷ (with_commas names ++ codes ">>" ∷ [])) × AllByRecursion IsWord names
 
--- a number of this value, which is at most 1
+-- The token is a number of this value, which is at most 1.
 pub record IsThreshold (token : List ℕ) (p : Fraction) : Type 0 where
   pub number : is_number token ≡ true
   pub value : DenotesNumber token p
   pub small : p.num ≤ p.den
 
--- "P", a sign and a number
+-- The tokens are "P", a sign and a number.
 abbrev pub IsComparison : List ℕ → List (List ℕ) → Fraction → Type 0
 IsComparison sign ts p = (token : List ℕ) × (ts ≡ codes "P" ∷ sign ∷ token ∷ []) × IsThreshold token p
 
@@ -52,7 +52,7 @@ IsBound ts (Below p) = IsComparison (codes "<") ts p
 IsBound ts AskMax = ts ≡ codes "Pmax" ∷ codes "=?" ∷ []
 IsBound ts AskMin = ts ≡ codes "Pmin" ∷ codes "=?" ∷ []
 
--- a comparison with a threshold
+-- The bound compares with a threshold.
 abbrev pub Compares : Bound → Type 0
 Compares (AtLeast p) = Unit {0}
 Compares (Above p) = Unit {0}
@@ -61,16 +61,16 @@ Compares (Below p) = Unit {0}
 Compares AskMax = ⊥
 Compares AskMin = ⊥
 
--- a whole number of this value, which is not too great
+-- The token is a whole number of this value, which is not too great.
 pub record IsSteps (token : List ℕ) (k : ℕ) : Type 0 where
   pub value : number_of token ≡ Some k
   pub small : k ≤ most_steps
 
--- [ coalition ] bound "[" path "]", by the tokens of its three parts
+-- These are the tokens [ coalition ] bound "[" path "]" of a formula with these three parts.
 abbrev pub formula_of : List (List ℕ) → List (List ℕ) → List (List ℕ) → List (List ℕ)
 formula_of team asks sides = team ++ (asks ++ codes "[" ∷ (sides ++ codes "]" ∷ []))
 
--- The state formulas and paths that tokens spell, where at most so many `(`, `!` and `[` are open at once in them.
+-- Tokens spell these state formulas and paths. At most `room` signs `(`, `!` and `[` are open at once in them.
 mutual
   -- state = either | state "=>" either
   pub data IsState : ℕ → List (List ℕ) → State → Type 0 where

@@ -1,4 +1,4 @@
-//! Deadlines of paths.
+//! This module reads the deadlines of paths.
 
 ghost use Rattle.std.specs.Prelude.{◌≡◌};
 ghost use Rattle.formula_tokens.specs.Fault.{IsResult};
@@ -10,7 +10,7 @@ use crate::limits::MOST_STEPS;
 use formula_tokens::{Cursor, FormulaCause, FormulaFault, Token, behind_if, next_token};
 use text_lines::whole;
 
-/// The number of steps that `<=` sets a path, where one stands.
+/// Reads the number of steps that `<=` sets a path, if there is one.
 pub fn read_deadline<'a>(cursor: Cursor<'a>) -> Result<(PathKind, Cursor<'a>), FormulaFault>
     ensures { IsResult (read_at (λ kind. kind)) result (deadline (tokens_at cursor.entry)) }
 {
@@ -22,7 +22,7 @@ pub fn read_deadline<'a>(cursor: Cursor<'a>) -> Result<(PathKind, Cursor<'a>), F
     Ok((PathKind::Within(steps), token.after))
 }
 
-// A whole number of steps, which are not too many.
+// Reads a whole number of steps, which are not too many.
 fn steps_in(token: &Token<'_>) -> Result<u32, FormulaFault>
     ensures { IsResult (λ value. value) result (steps (token_of token.now)) }
 {

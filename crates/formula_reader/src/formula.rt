@@ -1,19 +1,19 @@
-//! Formulas as values.
+//! This module defines formulas as values.
 
 ghost use Rattle.std.specs.Prelude.{◌≡◌};
 
 use fractions::Frac;
 use game_outside::Name;
 
-/// A property of states: labels, formulas inside, and their combinations.
+/// A state formula is a property of states: labels, formulas inside, and their combinations.
 #[cycle(formula)]
 #[derive(Drop)]
 pub enum StateFormula {
-    /// `true`: every state.
+    /// `true` holds at every state.
     True,
-    /// `false`: no state.
+    /// `false` holds at no state.
     False,
-    /// The states with this label.
+    /// The formula holds at the states with this label.
     Label(Name),
     /// `!x`
     Not(Box<StateFormula>),
@@ -23,11 +23,11 @@ pub enum StateFormula {
     Or(Box<StateFormula>, Box<StateFormula>),
     /// `x => y`
     Implies(Box<StateFormula>, Box<StateFormula>),
-    /// The states where a formula is true, as `P>=0.5 [ F "goal" ]`.
+    /// A formula inside holds at the states where it is true, as `P>=0.5 [ F "goal" ]`.
     Inner(Box<Formula>),
 }
 
-/// What is asked of the probability: that it meets a threshold, or its greatest or least value.
+/// A bound asks that a probability meets a threshold, or asks for its greatest or least value.
 #[derive(Clone, Copy, Debug, PartialEq, Eq)]
 pub enum Bound {
     /// `P>=p`
@@ -38,13 +38,13 @@ pub enum Bound {
     AtMost(Frac),
     /// `P<p`
     Below(Frac),
-    /// `Pmax=?`: the greatest value.
+    /// `Pmax=?` asks for the greatest value.
     AskMax,
-    /// `Pmin=?`: the least value.
+    /// `Pmin=?` asks for the least value.
     AskMin,
 }
 
-/// How a probability is compared with a threshold.
+/// A comparison says how a probability is compared with a threshold.
 #[derive(Clone, Copy, Debug, PartialEq, Eq)]
 pub enum Comparison {
     AtLeast,
@@ -56,7 +56,7 @@ pub enum Comparison {
 impl Comparison {
     ghost use Rattle.formula_reader.specs.inside.Bounds.{bound_with};
 
-    /// The bound that compares with this threshold.
+    /// Returns the bound that compares with this threshold.
     pub fn bound(self, threshold: Frac) -> Bound
         ensures { result ≡ bound_with self threshold }
     {
@@ -69,27 +69,27 @@ impl Comparison {
     }
 }
 
-/// The names of the players in a coalition.
+/// These are the names of the players in a coalition.
 #[derive(Drop)]
 pub struct Names {
     pub list: Vec<Name>,
 }
 
-/// What a formula asks of a path: `left U right` and its kin.
+/// The kind of a path says what a formula asks of it, such as `left U right`.
 #[derive(Clone, Copy, Debug, PartialEq, Eq)]
 pub enum PathKind {
-    /// `left U right`: a state of the right side is reached, past states of the left side alone. `F right` has `True`
-    /// on the left.
+    /// `left U right` holds if a state is reached where the right side holds, and the left side holds at each state
+    /// before it. `F right` has `True` on the left.
     Until,
-    /// `left U<=k right`: the same, within so many steps. `F<=k right` has `True` on the left.
+    /// `left U<=k right` asks for the same within `k` steps. `F<=k right` has `True` on the left.
     Within(u32),
-    /// `X right`: the next state is of the right side. The left side is `True`.
+    /// `X right` holds if the right side holds at the next state. The left side is `True`.
     Next,
-    /// `G right`: every state is of the right side. The left side is `True`.
+    /// `G right` holds if the right side holds at every state. The left side is `True`.
     Always,
 }
 
-/// A bound on the probability of paths, for a coalition of players where one is named.
+/// A formula is a bound on the probability of paths, for a coalition of players if one is named.
 #[cycle(formula)]
 #[derive(Drop)]
 pub struct Formula {

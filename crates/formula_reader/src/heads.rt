@@ -1,4 +1,4 @@
-//! What stands before the `[` of a formula: a coalition and a bound.
+//! This module reads what comes before the `[` of a formula: a coalition and a bound.
 
 ghost use Rattle.std.specs.Prelude.{◌≡◌, ◌++◌, ◌∷◌, [], OnOk, IfErr, option_map};
 ghost use Rattle.game_outside.specs.Answers.{AnswersOrWants};
@@ -15,10 +15,10 @@ use fractions::{Frac, NumberFault, read_number};
 use game_outside::Name;
 use std::alloc::Global;
 
-/// A bound, and what is left behind it.
+/// This is a bound, and what is left behind it, or the first fault.
 pub type ReadBound<'a> = Result<(Bound, Cursor<'a>), FormulaFault>;
 
-/// The names of a coalition, where one stands.
+/// Reads the names of a coalition, if there is one.
 pub fn read_coalition<'a>(
     alloc: Global,
     cursor: Cursor<'a>,
@@ -36,7 +36,7 @@ pub fn read_coalition<'a>(
     Ok((Some(names), after))
 }
 
-// One or more names, and `>>` behind them.
+// Reads one or more names, and `>>` behind them.
 fn read_names<'a>(alloc: Global, cursor: Cursor<'a>) -> Result<(Names, Cursor<'a>), FormulaFault>
     ensures { AnswersOrWants IsOutOfMemory (read_at names_of) result (names (tokens_at cursor.entry)) }
 {
@@ -78,7 +78,7 @@ fn add_name(alloc: Global, list: &mut Vec<Name>, word: &[u8]) -> Result<(), Form
     }
 }
 
-/// A bound on the probability.
+/// Reads a bound on the probability.
 pub fn read_bound<'a>(cursor: Cursor<'a>) -> ReadBound<'a>
     ensures { IsResult (read_at (λ bound. bound)) result (bound (tokens_at cursor.entry)) }
 {
@@ -94,7 +94,7 @@ pub fn read_bound<'a>(cursor: Cursor<'a>) -> ReadBound<'a>
     }
 }
 
-/// The bound of a formula inside, which compares with a threshold.
+/// Reads the bound of a formula inside, which compares with a threshold.
 pub fn read_inner_bound<'a>(cursor: Cursor<'a>) -> ReadBound<'a>
     ensures { IsResult (read_at (λ bound. bound)) result (inner_bound (tokens_at cursor.entry)) }
 {
@@ -125,7 +125,7 @@ fn read_comparison<'a>(cursor: Cursor<'a>) -> ReadBound<'a>
     }
 }
 
-// The threshold of a comparison.
+// Reads the threshold of a comparison.
 fn read_threshold<'a>(
     comparison: Comparison,
     cursor: Cursor<'a>,
@@ -137,7 +137,7 @@ fn read_threshold<'a>(
     Ok((comparison.bound(threshold), token.after))
 }
 
-// A number that is at most 1.
+// Reads a number that is at most 1.
 fn threshold_in(token: &Token<'_>) -> Result<Frac, FormulaFault>
     ensures { IsResult (λ value. value) result (threshold (token_of token.now)) }
 {

@@ -1,4 +1,5 @@
-//! Laws of formulas and the texts that denote them. Each function does nothing; its contract is the law.
+//! This module has the laws of formulas and the texts that denote them. Each function does nothing: its contract is the
+//! law.
 
 ghost use Rattle.std.specs.Prelude.{◌≡◌, ◌≤◌, ◌++◌, ◌↔◌, ℕ, List, Ok, length};
 ghost use Rattle.formula_reader.specs.Formula.{Tree, formulas_inside};
@@ -22,7 +23,7 @@ pub fn formulas_are_those_that_a_text_denotes()
     ensures { (text : List ℕ) (tree : Tree) → (formula_said text ≡ Ok tree) ↔ DenotesFormula text tree }
 {}
 
-/// A blank before a token or at the end of a text changes no formula, where the text does not get too long.
+/// A blank before a token or at the end of a text changes no formula, if the text does not get too long.
 pub fn blanks_change_no_formula()
     ensures before { (front blank back : List ℕ) (tree : Tree) → IsBlank blank
         → StandsAt (tokens_of (front ++ back)) (length front) →

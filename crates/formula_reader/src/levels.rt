@@ -1,4 +1,4 @@
-//! The operators of state formulas, from the one that binds weakest, and what stands under them.
+//! This module makes state formulas by their operators, which are listed from the one that binds weakest.
 
 ghost use Rattle.std.specs.Prelude.{◌≡◌, MatchResult, option_map};
 ghost use Rattle.formula_tokens.specs.Fault.{IsOutOfMemory};
@@ -9,7 +9,7 @@ use crate::formula::{Bound, Formula, Names, PathKind, StateFormula};
 use formula_tokens::{FormulaCause, FormulaFault};
 use std::alloc::Global;
 
-/// What an operator makes of two state formulas.
+/// A level is an operator that makes one state formula of two.
 #[derive(Clone, Copy, Debug, PartialEq, Eq)]
 pub enum Level {
     Implication,
@@ -18,7 +18,7 @@ pub enum Level {
 }
 
 impl Level {
-    /// How the operator of the level is spelt.
+    /// Spells the operator of the level.
     pub fn sign(self) -> &'static str
         ensures { result.now ≡ sign_of self }
     {
@@ -29,7 +29,7 @@ impl Level {
         }
     }
 
-    /// The formula of two operands under the operator of the level. The only error is want of memory.
+    /// Makes the formula of two operands under the operator of the level. The only error is that memory ran out.
     pub fn join(
         self,
         alloc: Global,
@@ -49,7 +49,7 @@ impl Level {
     }
 }
 
-/// What `!` makes of a state formula.
+/// Makes the negation of a state formula.
 pub fn negation(alloc: Global, state: StateFormula) -> Result<StateFormula, FormulaFault>
     ensures { MatchResult result (λ whole. state_of whole ≡ Not (state_of state)) IsOutOfMemory }
 {
@@ -57,7 +57,7 @@ pub fn negation(alloc: Global, state: StateFormula) -> Result<StateFormula, Form
     Ok(StateFormula::Not(state))
 }
 
-/// A formula of its parts as a state formula: the states where it is true.
+/// Makes a state formula of the parts of a formula: it holds at the states where the formula is true.
 pub fn inner(
     alloc: Global,
     coalition: Option<Names>,

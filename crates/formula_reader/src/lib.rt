@@ -1,11 +1,11 @@
-//! Formulas of PCTL (Hansson and Jonsson 1994) and rPATL (Chen et al. 2013), read as PRISM spells them: a bound on the
-//! probability of a path with `F` or `U`, with a deadline in steps or without, `X` or `G`. Formulas that compare with a
-//! threshold also stand inside state formulas, to any depth up to a limit.
+//! This crate reads formulas of PCTL (Hansson and Jonsson 1994) and rPATL (Chen et al. 2013) as PRISM spells them: a
+//! bound on the probability of a path with `F` or `U`, with a deadline in steps or without, `X` or `G`. Formulas that
+//! compare with a threshold may also be inside state formulas, to any depth up to a limit.
 //!
 //! `read_formula` gives the formula that a text spells, or the first fault of the text with its offset. The rules of
-//! the grammar are `IsFormula` of `specs/Rules.antt`, over the tokens of `formula_tokens`; contracts see a formula as a
-//! `Tree` of `specs/Formula.antt`, by `tree_of`. Which names stand for labels or players of a model is not looked at
-//! here.
+//! the grammar are `IsFormula` of `specs/Rules.antt`, over the tokens of `formula_tokens`. Contracts see a formula as a
+//! `Tree` of `specs/Formula.antt`, by `tree_of`. The crate does not check whether a model has the labels and players
+//! that a formula names.
 #![tactic(auto)]
 
 mod deadlines;

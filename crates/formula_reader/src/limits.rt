@@ -1,7 +1,7 @@
-//! The limits of formulas.
+//! These are the limits of formulas.
 
-/// The most `(`, `!` and `[` of formulas inside that may be open at once.
+/// At most this many `(`, `!` and `[` of formulas inside may be open at once.
 pub const MOST_NESTED: u32 = 64;
 
-/// The most steps of `F<=` and `U<=`.
+/// `F<=` and `U<=` have at most this many steps.
 pub const MOST_STEPS: u32 = 1_000_000;

@@ -1,4 +1,4 @@
-//! Formulas.
+//! This module reads formulas.
 
 ghost use Rattle.std.specs.Prelude.{option_map};
 ghost use Rattle.game_outside.specs.Answers.{AnswersOrWants};
@@ -14,7 +14,7 @@ use crate::states::read_sides;
 use formula_tokens::{Cursor, FormulaCause, FormulaFault, LONGEST, Lead, next_lead};
 use std::alloc::Global;
 
-/// The formula that a text spells, or the first fault of the text. What is said of a text is what it denotes:
+/// Reads the formula that a text spells, or the first fault of the text. What is said of a text is what it denotes:
 /// `laws::formulas_are_those_that_a_text_denotes`.
 #[tactic(auto, unfolding(crate::specs::Grammar::formula_said))]
 pub fn read_formula(alloc: Global, text: &str) -> Result<Formula, FormulaFault>
@@ -43,8 +43,8 @@ fn whole(alloc: Global, cursor: Cursor<'_>) -> Result<Formula, FormulaFault>
     }
 }
 
-// The two sides, and the end of the text behind them. This `[` is not among those that are counted, so there is room
-// for one more.
+// Reads the two sides, and the end of the text behind them. This `[` is not among those that are counted, so there is
+// room for one more.
 fn behind_bound(
     alloc: Global,
     coalition: Option<Names>,

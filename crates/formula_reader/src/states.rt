@@ -1,4 +1,4 @@
-//! State formulas, the formulas inside them and their paths.
+//! This module reads state formulas, the formulas inside them and their paths.
 
 ghost use Rattle.std.specs.Prelude.{◌≡◌, MatchResult, option_map};
 ghost use Rattle.game_outside.specs.Answers.{AnswersOrWants};
@@ -18,13 +18,13 @@ use formula_tokens::{Cursor, FormulaCause, FormulaFault, Token, behind, behind_i
 use game_outside::Name;
 use std::alloc::Global;
 
-/// A state formula, and what is left behind it.
+/// This is a state formula, and what is left behind it, or the first fault.
 pub type Read<'a> = Result<(StateFormula, Cursor<'a>), FormulaFault>;
 
-/// The kind of a path, its two sides, and what is left behind it.
+/// This is the kind of a path, its two sides, and what is left behind it, or the first fault.
 pub type ReadPath<'a> = Result<(PathKind, StateFormula, StateFormula, Cursor<'a>), FormulaFault>;
 
-// `true`, `false` or a quoted name.
+// Reads `true`, `false` or a quoted name.
 fn plain_state<'a>(alloc: Global, token: Token<'a>) -> Read<'a>
     ensures { AnswersOrWants IsOutOfMemory (read_at state_of) result (plain (token_of token.entry)) }
 {
@@ -40,7 +40,7 @@ fn plain_state<'a>(alloc: Global, token: Token<'a>) -> Read<'a>
     }
 }
 
-// The name between the first byte and the last.
+// Returns the name between the first byte and the last.
 fn label(alloc: Global, spelling: &[u8]) -> Result<Name, FormulaFault>
     ensures { MatchResult result (λ name. name ≡ unquoted spelling.now) IsOutOfMemory }
 {
@@ -54,7 +54,7 @@ fn label(alloc: Global, spelling: &[u8]) -> Result<Name, FormulaFault>
     }
 }
 
-// Operands of a level, with its sign between them, where so many more `!`, `(` and `[` may be open.
+// Reads operands of a level, with its sign between them, if `room` more `!`, `(` and `[` may be open.
 #[tactic(auto, using(crate::proofs::Joining::begun, crate::proofs::Joining::went_on, crate::proofs::Joining::broke_off, crate::proofs::Joining::ended))]
 #[cycle(state)]
 fn level_state<'a>(alloc: Global, level: Level, room: u32, cursor: Cursor<'a>) -> Read<'a>
@@ -70,7 +70,7 @@ fn level_state<'a>(alloc: Global, level: Level, room: u32, cursor: Cursor<'a>) -
     Ok((left, rest))
 }
 
-// What stands between the signs of a level.
+// Reads an operand between the signs of a level.
 #[cycle(state)]
 fn operand_state<'a>(alloc: Global, level: Level, room: u32, cursor: Cursor<'a>) -> Read<'a>
     ensures { AnswersOrWants IsOutOfMemory (read_at state_of) result
@@ -103,7 +103,7 @@ fn begins_formula(token: &Token<'_>) -> bool
     token.is("P") || token.is("Pmax") || token.is("Pmin") || token.is("<<")
 }
 
-// What a `!` or a `(` begins.
+// Reads what a `!` or a `(` begins.
 #[tactic(auto, using(crate::proofs::Joining::nested_within, crate::proofs::Joining::nested_without))]
 #[cycle(state)]
 fn nested_state<'a>(alloc: Global, room: u32, token: Token<'a>) -> Read<'a>
@@ -122,7 +122,7 @@ fn nested_state<'a>(alloc: Global, room: u32, token: Token<'a>) -> Read<'a>
     }
 }
 
-// A formula inside.
+// Reads a formula inside.
 #[cycle(state)]
 fn inner_state<'a>(alloc: Global, room: u32, cursor: Cursor<'a>) -> Read<'a>
     ensures { AnswersOrWants IsOutOfMemory (read_at state_of) result (inner (nested room) (tokens_at cursor.entry)) }
@@ -138,7 +138,7 @@ fn inner_state<'a>(alloc: Global, room: u32, cursor: Cursor<'a>) -> Read<'a>
     }
 }
 
-/// The path between `[` and `]`, where so many more `!`, `(` and `[` may be open, this `[` among them.
+/// Reads the path between `[` and `]`, if `room` more `!`, `(` and `[` may be open, this `[` among them.
 #[tactic(auto, using(crate::proofs::Joining::path_within, crate::proofs::Joining::path_without))]
 #[cycle(state)]
 pub fn read_sides<'a>(alloc: Global, room: u32, cursor: Cursor<'a>) -> ReadPath<'a>
@@ -156,7 +156,7 @@ pub fn read_sides<'a>(alloc: Global, room: u32, cursor: Cursor<'a>) -> ReadPath<
     Ok((kind, left, right, rest))
 }
 
-// A path. `F`, `X` and `G` have `true` on the left.
+// Reads a path. `F`, `X` and `G` have `true` on the left.
 #[cycle(state)]
 fn read_path<'a>(alloc: Global, room: u32, cursor: Cursor<'a>) -> ReadPath<'a>
     ensures { AnswersOrWants IsOutOfMemory path_at result
@@ -183,7 +183,7 @@ fn read_path<'a>(alloc: Global, room: u32, cursor: Cursor<'a>) -> ReadPath<'a>
     read_reached(alloc, room, left, rest)
 }
 
-// What stands behind `F` or `U`.
+// Reads what comes behind `F` or `U`.
 #[cycle(state)]
 fn read_reached<'a>(
     alloc: Global,
@@ -200,7 +200,7 @@ fn read_reached<'a>(
     }
 }
 
-// The right side of a path.
+// Reads the right side of a path.
 #[cycle(state)]
 fn read_right<'a>(
     alloc: Global,

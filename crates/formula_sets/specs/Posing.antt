@@ -1,4 +1,4 @@
--- The question that a formula poses.
+-- This module defines the question that a formula poses.
 use Rattle.std.specs.Prelude.{◌≡◌, ◌≢◌, ◌<◌, ℕ, Bool, true, false, not, ◌&&◌, List, [], ◌∷◌, ◌++◌, length, map}
 use Rattle.std.specs.Prelude.{slice_index, Option, Some, None, Result, Ok, Err, All, if◌then◌else◌, codes}
 use Rattle.std.specs.List.{range_with_len}
@@ -15,60 +15,61 @@ use Rattle.formula_sets.specs.declared.fault.PoseFault.TheVariants.{OutOfMemory,
 use Rattle.formula_sets.specs.Truth.{holds, labels_in, unknown_label}
 use Rattle.formula_sets.specs.Sides.{side_of, members_of, players_in, unknown_player}
 
--- a game whose states have labels and owners
+-- A model is a game whose states have labels and owners.
 pub record Model : Type 0 where
   pub game : List (List Distribution)
   pub labels : Labelling
   pub owners : Ownership
 
--- a question, and its initial states
+-- A posing is a question and its initial states.
 pub record Posing : Type 0 where
   pub question : Query
   pub initial : List ℕ
 
--- a question of one step, the table from which its values begin, in units, and its initial states
+-- A posing with `X` is a question of one step, the table from which its values begin, in units, and its initial states.
 pub record NextPosing : Type 0 where
   pub question : Query
   pub opening : List ℕ
   pub initial : List ℕ
 
--- the path is `left U right`, with or without a bound on its steps
+-- The path is `left U right`, with or without a bound on its steps.
 abbrev pub IsUntil : PathKind → Type 0
 IsUntil Until = Unit {0}
 IsUntil (Within steps) = Unit {0}
 IsUntil Next = ⊥
 IsUntil Always = ⊥
 
--- the label of the initial states
+-- This is the label of the initial states.
 abbrev pub init : List ℕ
 init = codes "init"
 
--- the labels that a formula names, in the order of the text
+-- These are the labels that a formula names, in the order of the text.
 abbrev pub formula_labels : Tree → List (List ℕ)
 formula_labels f = labels_in f.left ++ labels_in f.right
 
--- the players that a formula names, in the order of the text
+-- These are the players that a formula names, in the order of the text.
 abbrev pub formula_players : Tree → List (List ℕ)
 formula_players f = members_of f.coalition ++ (players_in f.left ++ players_in f.right)
 
--- neither side holds at the state
+-- Neither side holds at the state.
 abbrev pub neither_holds : Labelling → Tree → ℕ → Bool
 neither_holds l f s = not (holds l f.right s) && not (holds l f.left s)
 
--- where the right side holds, probability 1, in units
+-- This is probability 1, in units, if the right side holds at the state, and otherwise 0.
 abbrev pub opening_at : Labelling → Tree → ℕ → ℕ
 opening_at l f s = if holds l f.right s then unit else 0
 
--- 1. The question, as a relation.
+-- 1. This defines the question as a relation.
 
--- the names in the formula are there, and these are the initial states: those with the label `init`, at least one
+-- The model has the names in the formula, and the initial states are those with the label `init`, at least one.
 pub record BeginsAt (l : Labelling) (o : Ownership) (f : Tree) (initial : List ℕ) : Type 0 where
   pub labels : All (λ name. is_known l name ≡ true) (formula_labels f)
   pub players : All (λ name. is_player o name ≡ true) (formula_players f)
   pub starts : initial ≡ states_with l init
   pub some : initial ≢ []
 
--- whatever the path: the question is of this game, with the formula's sides, and begins at these states
+-- Whatever the path is, the question is about this game, gives each state the side that chooses there, and begins at
+-- these states.
 pub record IsSetUp (game : List (List Distribution)) (l : Labelling) (o : Ownership) (f : Tree) (question : Query)
     (initial : List ℕ) : Type 0 where
   pub begins : BeginsAt l o f initial
@@ -78,8 +79,8 @@ pub record IsSetUp (game : List (List Distribution)) (l : Labelling) (o : Owners
   pub dead_count : length question.deads ≡ length game
   pub sides : (s : ℕ) → s < length game → side_at question s ≡ side_of f.coalition f.bound o s
 
--- with `U`: goals are the states where the right side holds, and dead those where neither side does; no formula stands
--- inside
+-- A formula with `U` or `F` poses this question: goals are the states where the right side holds, and dead states those
+-- where neither side does. No formula is inside it.
 pub record Poses (game : List (List Distribution)) (l : Labelling) (o : Ownership) (f : Tree)
     (p : Posing) : Type 0 where
   pub flat : IsFlat f
@@ -87,7 +88,8 @@ pub record Poses (game : List (List Distribution)) (l : Labelling) (o : Ownershi
   pub goals : (s : ℕ) → s < length game → is_goal p.question s ≡ holds l f.right s
   pub deads : (s : ℕ) → s < length game → is_dead p.question s ≡ neither_holds l f s
 
--- with `X`: no marks, and an opening table; no formula stands inside
+-- A formula with `X` poses this question: no state is a goal or dead, and there is an opening table. No formula is
+-- inside it.
 pub record PosesNext (game : List (List Distribution)) (l : Labelling) (o : Ownership) (f : Tree)
     (p : NextPosing) : Type 0 where
   pub flat : IsFlat f
@@ -97,13 +99,13 @@ pub record PosesNext (game : List (List Distribution)) (l : Labelling) (o : Owne
   pub opening_count : length p.opening ≡ length game
   pub opening : (s : ℕ) → s < length game → slice_index p.opening s ≡ opening_at l f s
 
--- 2. The question or the first fault.
+-- 2. This defines the question or the first fault.
 
--- what this gives at each state
+-- This is the list of what `value` gives at each state.
 abbrev pub at_states : {X : Type 0} → (ℕ → X) → ℕ → List X
 at_states value n = map value (range_with_len 0 n)
 
--- the question of the game with the formula's sides, and these goals and dead states
+-- This is the question about the game, with the side that chooses at each state, and these goals and dead states.
 abbrev pub question_with : List (List Distribution) → Ownership → Tree → List Bool → List Bool → Query
 question_with game o f goals deads = record {
   game = game;
@@ -113,47 +115,48 @@ question_with game o f goals deads = record {
   deads = deads;
 }
 
--- the question of a formula with `U`: to reach a state where the right side holds, through states where the left one
--- does
+-- This is the question of a formula with `U` or `F`: to reach a state where the right side holds, through states where
+-- the left side holds.
 abbrev pub question_of : List (List Distribution) → Labelling → Ownership → Tree → Query
 question_of game l o f = question_with game o f (at_states (holds l f.right) (length game))
     (at_states (neither_holds l f) (length game))
 
--- no mark at any of so many states
+-- None of `states` states has a mark.
 abbrev pub unmarked : ℕ → List Bool
 unmarked states = at_states (λ s. false) states
 
--- the question of a formula with `X`, with no goal and no dead state: its opening table says which states are wanted
+-- This is the question of a formula with `X`, with no goal and no dead state. Its opening table says which states are
+-- wanted.
 abbrev pub next_question_of : List (List Distribution) → Ownership → Tree → Query
 next_question_of game o f = question_with game o f (unmarked (length game)) (unmarked (length game))
 
--- these states, or the fault `NoInit` where there is none
+-- The answer is these states, or the fault `NoInit` if there are none.
 abbrev pub some_state : List ℕ → Result (List ℕ) PoseFault
 some_state [] = Err NoInit
 some_state (s ∷ states) = Ok (s ∷ states)
 
--- what is said of the initial states, unless there is a label or a player that is not known: then this is the fault
+-- The answer is what is said of the initial states, or the fault if a label or a player is not known.
 abbrev pub known_with : Option (List ℕ) → Option (List ℕ) → Result (List ℕ) PoseFault → Result (List ℕ) PoseFault
 known_with (Some label) player initial = Err (UnknownLabel label)
 known_with None (Some player) initial = Err (UnknownPlayer player)
 known_with None None initial = initial
 
--- the initial states, or the first fault
+-- These are the initial states, or the first fault.
 abbrev pub initial_said : Labelling → Ownership → Tree → Result (List ℕ) PoseFault
 initial_said l o f = known_with (unknown_label l (formula_labels f)) (unknown_player o (formula_players f))
     (some_state (states_with l init))
 
--- what is made of initial states, or the fault
+-- This is what is made of initial states, or the fault.
 abbrev pub made_of : {X : Type 0} → (List ℕ → X) → Result (List ℕ) PoseFault → Result X PoseFault
 made_of make (Ok initial) = Ok (make initial)
 made_of make (Err fault) = Err fault
 
--- the question that is posed, or the first fault
+-- This is the question that is posed, or the first fault.
 abbrev pub pose_said : List (List Distribution) → Labelling → Ownership → Tree → Result Posing PoseFault
 pose_said game l o f = made_of (λ initial. record { question = question_of game l o f; initial = initial })
     (initial_said l o f)
 
--- the same with `X`
+-- This is the question that a formula with `X` poses, or the first fault.
 abbrev pub pose_next_said : List (List Distribution) → Labelling → Ownership → Tree → Result NextPosing PoseFault
 pose_next_said game l o f = made_of (λ initial. record {
   question = next_question_of game o f;
@@ -161,6 +164,6 @@ pose_next_said game l o f = made_of (λ initial. record {
   initial = initial;
 }) (initial_said l o f)
 
--- memory was wanting, which is no fault of the formula
+-- Memory ran out, which is no fault of the formula.
 abbrev pub IsOutOfMemory : PoseFault → Type 0
 IsOutOfMemory fault = fault ≡ OutOfMemory

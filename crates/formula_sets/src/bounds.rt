@@ -1,4 +1,4 @@
-//! The sides that a bound gives.
+//! This module gives the sides that a bound leads to.
 
 ghost use Rattle.std.specs.Prelude.{◌≡◌};
 ghost use Rattle.formula_sets.specs.Sides.{coalition_side, common_side};
@@ -6,7 +6,7 @@ ghost use Rattle.formula_sets.specs.Sides.{coalition_side, common_side};
 use formula_reader::Bound;
 use game_model::Side;
 
-/// The side of a coalition.
+/// Returns the side of a coalition.
 pub fn coalition_side_of(bound: &Bound) -> Side
     ensures { result ≡ coalition_side bound.now }
 {
@@ -16,7 +16,7 @@ pub fn coalition_side_of(bound: &Bound) -> Side
     }
 }
 
-/// The side of all states where no coalition is named.
+/// Returns the side of all states if no coalition is named.
 pub fn common_side_of(bound: &Bound) -> Side
     ensures { result ≡ common_side bound.now }
 {

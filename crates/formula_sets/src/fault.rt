@@ -1,24 +1,24 @@
-//! Why a formula poses no question.
+//! This module says why a formula poses no question.
 
 ghost use Rattle.std.specs.Prelude.{◌≡◌, ◌⊎◌};
 
 use game_outside::Name;
 use std::alloc::Global;
 
-/// Why a formula poses no question: want of memory, or the first reason in this order.
+/// A formula poses no question because memory ran out, or for the first reason in this order.
 #[derive(Drop)]
 pub enum PoseFault {
     OutOfMemory,
-    /// There is no such label; it is the first in the text.
+    /// No label has this name, which is the first such name in the text.
     UnknownLabel(Name),
-    /// There is no such player; it is the first in the text.
+    /// No player has this name, which is the first such name in the text.
     UnknownPlayer(Name),
     /// No state has the label `init`.
     NoInit,
 }
 
 impl PoseFault {
-    // There is no such label.
+    // Returns the fault that no label has this name.
     pub(crate) fn label(alloc: Global, name: &Name) -> PoseFault
         ensures { (result ≡ PoseFault.OutOfMemory) ⊎ (result ≡ PoseFault.UnknownLabel name.now) }
     {
@@ -28,7 +28,7 @@ impl PoseFault {
         }
     }
 
-    // There is no such player.
+    // Returns the fault that no player has this name.
     pub(crate) fn player(alloc: Global, name: &Name) -> PoseFault
         ensures { (result ≡ PoseFault.OutOfMemory) ⊎ (result ≡ PoseFault.UnknownPlayer name.now) }
     {

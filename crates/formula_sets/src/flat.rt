@@ -1,11 +1,11 @@
-//! Whether formulas stand inside a formula.
+//! This module finds out if formulas are inside a formula.
 
 ghost use Rattle.std.specs.Prelude.{◌≡◌, ◌&&◌};
 ghost use Rattle.formula_reader.specs.Formula.{is_flat, state_of};
 
 use formula_reader::{Formula, StateFormula};
 
-/// Whether no formula stands inside the sides of a formula.
+/// Returns whether no formula is inside the sides of a formula.
 pub fn is_flat(formula: &Formula) -> bool
     ensures { result ≡ (is_flat (state_of formula.now.left) && is_flat (state_of formula.now.right)) }
 {

@@ -1,4 +1,4 @@
-//! Where state formulas hold, and the labels that they name.
+//! This module finds where state formulas hold, and which of their labels are unknown.
 
 ghost use Rattle.std.specs.Prelude.{◌≡◌, IfOk, option_copied};
 ghost use Rattle.label_lines.specs.Labels.{holds_at};
@@ -12,7 +12,7 @@ use game_outside::Name;
 use label_reader::Labels;
 use std::alloc::{AllocError, Global};
 
-/// The same mark for each of so many states.
+/// Returns the same mark for each of `states` states.
 #[tactic(auto, using(crate::proofs::Marked::filled))]
 pub fn same_marks(alloc: Global, mark: bool, states: u32) -> Result<Vec<bool>, AllocError>
     ensures { IfOk result (λ v. v.items ≡ at_states (λ s. mark) states) }
@@ -20,7 +20,8 @@ pub fn same_marks(alloc: Global, mark: bool, states: u32) -> Result<Vec<bool>, A
     vec![in alloc; mark; states as usize]
 }
 
-/// Where the label with this name holds, as a mark for each of so many states; nowhere where there is no such label.
+/// Marks where the label with this name holds, one mark for each of `states` states. If there is no such label, it
+/// holds nowhere.
 pub fn marks_of_label(
     alloc: Global,
     labels: &Labels,
@@ -37,8 +38,8 @@ pub fn marks_of_label(
     Ok(marks)
 }
 
-/// Where a state formula holds, as a mark for each of so many states. Labels alone say nothing of a formula inside: it
-/// holds nowhere.
+/// Marks where a state formula holds, one mark for each of `states` states. A formula inside holds nowhere, because
+/// labels say nothing of it.
 pub fn marks_of(
     alloc: Global,
     labels: &Labels,
@@ -79,7 +80,7 @@ pub fn marks_of(
     }
 }
 
-// The first label of a state formula that there is not.
+// Returns the first unknown label that a state formula names.
 #[tactic(auto, using(crate::proofs::Finding::first_unknown_of))]
 fn first_unknown<'a>(labels: &Labels, formula: &'a StateFormula) -> Option<&'a Name>
     ensures { option_copied result ≡ unknown_label labels.now (labels_in (state_of formula.now)) }
@@ -103,7 +104,7 @@ fn first_unknown<'a>(labels: &Labels, formula: &'a StateFormula) -> Option<&'a N
     }
 }
 
-/// The first label of a formula that there is not.
+/// Returns the first unknown label that a formula names.
 #[tactic(auto, using(crate::proofs::Finding::first_unknown_of))]
 pub fn unknown_label_of<'a>(labels: &Labels, formula: &'a Formula) -> Option<&'a Name>
     ensures { option_copied result ≡ unknown_label labels.now (formula_labels (tree_of formula.now)) }

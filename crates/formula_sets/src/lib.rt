@@ -1,18 +1,18 @@
-//! The question that a formula poses of a game whose states have labels and owners.
+//! This crate gives the question that a formula poses about a game whose states have labels and owners.
 //!
-//! `pose` gives the question, which says who chooses at each state and which states are goals and dead, and the initial
-//! states; or the first reason why the formula poses none: a label or a player that there is not, or no initial state.
-//! `pose_next` gives that of a formula with `X`, whose states have no marks, and the table from which its one step is
-//! taken.
+//! `pose` gives the question, which says who chooses at each state and which states are goals or dead, and the initial
+//! states. If the formula poses none, it gives the first reason: an unknown label or player, or no initial state.
+//! `pose_next` gives the question of a formula with `X`, whose states have no marks, and the table from which its one
+//! step is taken.
 //!
 //! ```text
 //! let formula = read_formula(alloc, "<<p1>> P>=0.5 [ F \"goal\" ]")?;
 //! let posed = pose(alloc, &game, &labels, &owners, &formula)?;
 //! ```
 //!
-//! With `U` and `F` a goal is a state where the right side holds, and a dead state one where neither side holds. A
-//! coalition maximises under `>=`, `>` and `Pmax`, and minimises under `<=`, `<` and `Pmin`, against all others. Where
-//! no coalition is named, all states are one side's: the one that meets a bound only if every choice meets it, or the
+//! With `U` and `F` a goal is a state where the right side holds, and a dead state is one where neither side holds. A
+//! coalition maximises under `>=`, `>` and `Pmax`, and minimises under `<=`, `<` and `Pmin`, against all others. If no
+//! coalition is named, one side chooses at all states: the one that meets a bound only if every choice meets it, or the
 //! one that is asked. A formula with `G` poses no question itself: its dual does.
 #![tactic(auto)]
 

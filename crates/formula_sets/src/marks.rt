@@ -1,4 +1,4 @@
-//! Marks of places, changed one by one.
+//! This module changes the marks of places one by one.
 
 ghost use Rattle.std.specs.Prelude.{◌≡◌, ◌<◌, ◌&&◌, ◌||◌, ℕ, not, length, slice_index_or, false};
 
@@ -12,7 +12,7 @@ pub fn negate(marks: &mut [bool])
     }
 }
 
-/// Keeps the marks that others have, too.
+/// Keeps the marks that the others have as well.
 pub fn intersect(marks: &mut [bool], others: &[bool])
     requires { length others.now ≡ length marks.old }
     ensures { (s : ℕ) → s < length marks.old

@@ -1,4 +1,4 @@
-//! The question that a formula with `X` poses.
+//! This module poses the question of a formula with `X`.
 
 ghost use Rattle.std.specs.Prelude.{◌≡◌, ◌<◌, ◌≤◌, All, IfOk, false, if◌then◌else◌, length, slice_index_or};
 ghost use Rattle.game_model.specs.Limits.{unit};
@@ -17,23 +17,24 @@ use game_model::{Game, Question, UNIT};
 use label_reader::{Labels, Owners};
 use std::alloc::{AllocError, Global};
 
-/// A question of one step, whose states have no marks, and the initial states of its game, rising.
+/// Holds a question of one step, whose states have no marks, and the initial states of its game in rising order.
 #[derive(Drop)]
 pub struct PosedNext<'g> {
     pub question: Question<'g>,
-    /// The table from which the step is taken, in units by state: probability 1 where the right side holds, else 0.
+    /// This is the table from which the step is taken, in units by state: probability 1 where the right side holds, and
+    /// otherwise 0.
     pub opening: Vec<u64>,
     pub initial: Vec<u32>,
 }
 
-// Probability 1 at a mark, else 0, in units.
+// Returns probability 1 for a mark, and otherwise 0, in units.
 fn units_at(mark: bool) -> u64
     ensures { result ≡ (if mark then unit else 0) }
 {
     if mark { UNIT } else { 0 }
 }
 
-/// Probability 1 at each mark, else 0, in units.
+/// Returns probability 1 for each mark, and otherwise 0, in units.
 pub fn units_of(alloc: Global, marks: &[bool]) -> Result<Vec<u64>, AllocError>
     ensures { IfOk result (λ table. table.items ≡ at_states (λ s. if slice_index_or marks.now s false then unit else 0)
         (length marks.now)) }
@@ -45,7 +46,7 @@ pub fn units_of(alloc: Global, marks: &[bool]) -> Result<Vec<u64>, AllocError>
     Ok(table)
 }
 
-// The table of probability 1 where the right side holds, else 0.
+// Makes the table of probability 1 where the right side holds, and otherwise 0.
 fn opening_of(
     alloc: Global,
     labels: &Labels,
@@ -75,8 +76,8 @@ fn question_in<'g>(
     Ok(Question::build(game, sides, goals, deads))
 }
 
-/// The question that a formula with `X` poses of a game whose states have these labels and owners, and the table from
-/// which its step is taken; or its first fault. What is said of a formula is what it poses:
+/// Poses the question of a formula with `X` about a game whose states have these labels and owners, and gives the table
+/// from which its step is taken, or the first fault. What is said of a formula is what it poses:
 /// `laws::questions_are_those_that_a_formula_poses`.
 pub fn pose_next<'g>(
     alloc: Global,

@@ -1,4 +1,4 @@
-//! The question that a formula poses.
+//! This module poses the question of a formula.
 
 ghost use Rattle.std.specs.Prelude.{◌≡◌, ◌<◌, All, IfOk, length};
 ghost use Rattle.game_model.specs.Query.{states};
@@ -18,14 +18,14 @@ use game_model::{Game, Question, Side};
 use label_reader::{Labels, Owners};
 use std::alloc::{AllocError, Global};
 
-/// A question, and the initial states of its game, rising.
+/// Holds a question, and the initial states of its game in rising order.
 #[derive(Drop)]
 pub struct Posed<'g> {
     pub question: Question<'g>,
     pub initial: Vec<u32>,
 }
 
-/// The sides of so many states.
+/// Returns the side that chooses at each of `states` states.
 pub fn sides_of(
     alloc: Global,
     owners: &Owners,
@@ -43,7 +43,7 @@ pub fn sides_of(
     Ok(sides)
 }
 
-// Where neither side holds: the right one holds at the goals.
+// Marks where neither side holds, if the right side holds at the goals.
 fn deads_of(
     alloc: Global,
     labels: &Labels,
@@ -79,7 +79,7 @@ fn question_in<'g>(
     Ok(Question::build(game, sides, goals, deads))
 }
 
-/// The states with the label `init`, rising, or the first reason why a formula poses no question.
+/// Returns the states with the label `init` in rising order, or the first reason why a formula poses no question.
 pub fn initial_of(
     alloc: Global,
     labels: &Labels,
@@ -106,8 +106,8 @@ pub fn initial_of(
     Ok(initial)
 }
 
-/// The question that a formula with `U` or `F` poses of a game whose states have these labels and owners, or its first
-/// fault. What is said of a formula is what it poses: `laws::questions_are_those_that_a_formula_poses`.
+/// Poses the question of a formula with `U` or `F` about a game whose states have these labels and owners, or gives its
+/// first fault. What is said of a formula is what it poses: `laws::questions_are_those_that_a_formula_poses`.
 pub fn pose<'g>(
     alloc: Global,
     game: &'g Game,

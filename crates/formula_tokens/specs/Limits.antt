@@ -1,10 +1,10 @@
--- The limits of texts and tokens.
+-- These are the limits of texts and tokens.
 use Rattle.std.specs.Prelude.{ℕ}
 
--- the most bytes of a text: what people write is far shorter
+-- A text has at most this many bytes: what people write is far shorter.
 abbrev pub longest : ℕ
 longest = 4096
 
--- the most bytes of a quoted name, as in label files
+-- A quoted name has at most this many bytes, as in label files.
 abbrev pub longest_name : ℕ
 longest_name = 255

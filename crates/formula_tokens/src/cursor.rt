@@ -1,9 +1,9 @@
-//! A place in a text.
+//! A cursor is a place in a text.
 
 ghost use Rattle.std.specs.Prelude.{◌≤◌, ◌+◌, length};
 ghost use Rattle.formula_tokens.specs.Limits.{longest};
 
-/// What is left of a text from a place on.
+/// A cursor has what is left of a text from a place on.
 #[derive(Clone, Copy)]
 pub struct Cursor<'a> {
     pub place: u32,

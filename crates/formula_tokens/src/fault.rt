@@ -1,20 +1,20 @@
-//! Why a text is no formula.
+//! This module says why a text is no formula.
 
 ghost use Rattle.std.specs.Prelude.{◌≡◌};
 ghost use Rattle.formula_tokens.specs.Fault.{fault_at};
 
 use fractions::NumberFault;
 
-/// What is wrong with a text, or that memory was wanting.
+/// A cause says what is wrong with a text, or that memory ran out.
 #[derive(Clone, Copy, Debug, PartialEq, Eq)]
 pub enum FormulaCause {
-    /// Memory was wanting; the place is 0.
+    /// Memory ran out. The place is 0.
     OutOfMemory,
-    /// Bytes that form no token, or a token that the grammar does not allow there.
+    /// Bytes form no token, or the grammar does not allow a token there.
     Unexpected,
-    /// The text ends where a token has to stand, or inside a quoted name; the place is the text's length.
+    /// The text ends where a token has to come, or inside a quoted name. The place is the text's length.
     End,
-    /// A `(`, a `!` or the `[` of a formula inside, of which too many would be open at once.
+    /// Too many `(`, `!` and `[` of formulas inside would be open at once with this one.
     TooDeep,
     /// The threshold is no number, for this reason.
     BadNumber(NumberFault),
@@ -24,11 +24,11 @@ pub enum FormulaCause {
     TooLong,
     /// The number of steps behind `F<=` or `U<=` is not a whole number, or is above the limit.
     BadSteps,
-    /// `Pmax` or `Pmin` as the bound of a formula inside, which has to compare with a threshold.
+    /// `Pmax` or `Pmin` is the bound of a formula inside, which has to compare with a threshold.
     AskInside,
 }
 
-/// A cause, and the offset in bytes of the token that it speaks of.
+/// A fault has a cause, and the offset in bytes of the token that it is about.
 #[derive(Clone, Copy, Debug, PartialEq, Eq)]
 pub struct FormulaFault {
     pub place: u32,
@@ -36,7 +36,7 @@ pub struct FormulaFault {
 }
 
 impl FormulaFault {
-    /// The fault of this cause at a byte of the text.
+    /// Makes the fault of this cause at a byte of the text.
     pub fn new(place: u32, cause: FormulaCause) -> FormulaFault
         ensures { result ≡ fault_at place cause }
     {

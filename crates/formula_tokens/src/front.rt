@@ -1,4 +1,4 @@
-//! What stands at the front of a text.
+//! This module finds what is at the front of a text.
 
 ghost use Rattle.std.specs.Prelude.{◌≡◌, ◌≤◌, ◌<◌, ◌+◌, length};
 ghost use Rattle.formula_tokens.specs.Cursor.{Fits};
@@ -7,8 +7,8 @@ ghost use Rattle.formula_tokens.specs.Tokens.{in_number, is_long_sign, short_sig
 
 use crate::limits::LONGEST_NAME;
 
-/// What stands at the front of a text: a blank byte, a token of so many bytes, a quoted name that doesn't end, or bytes
-/// that begin no token.
+/// The front of a text is a blank byte, a token of some number of bytes, a quoted name that does not end, or bytes that
+/// begin no token.
 #[derive(Clone, Copy, Debug, PartialEq, Eq)]
 pub enum Front {
     Blank,
@@ -17,7 +17,7 @@ pub enum Front {
     Strange,
 }
 
-/// What stands at the front of a text that begins with this byte.
+/// Returns the front of a text that begins with this byte.
 pub fn front_of(first: u8, rest: &[u8]) -> Front
     requires { length rest.now ≤ longest }
     ensures value { result ≡ front_from first rest.now }

@@ -1,10 +1,10 @@
-//! The tokens of a formula: words, numbers, quoted names and signs, each as long as it goes on, with blanks between
-//! them.
+//! This crate finds the tokens of a formula: words, numbers, quoted names and signs, each as long as it goes on, with
+//! blanks between them.
 //!
-//! `next_lead` and `next_token` give what stands next behind a `Cursor`, and `behind` and `behind_if` pass over a
-//! token. A `FormulaFault` says why a text is no formula, with its offset. The rules by which a text is cut into tokens
-//! are `AreCut` of `specs/TokenRules.antt`, and `tokens_of` of `specs/Tokens.antt` has the tokens by cases: `laws` says
-//! that they are one. Contracts see what is left of a text as `Tokens`.
+//! `next_lead` and `next_token` give what comes next behind a `Cursor`, and `behind` and `behind_if` pass over a token.
+//! A `FormulaFault` says why a text is no formula, with its offset. The rules by which a text is cut into tokens are
+//! `AreCut` of `specs/TokenRules.antt`, and `tokens_of` of `specs/Tokens.antt` gives the tokens by cases: `laws` says
+//! that both agree. Contracts see what is left of a text as `Tokens`.
 #![tactic(auto)]
 
 mod cursor;

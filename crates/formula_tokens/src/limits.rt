@@ -1,7 +1,7 @@
-//! The limits of texts and tokens.
+//! These are the limits of texts and tokens.
 
-/// The most bytes of a text.
+/// A text has at most this many bytes.
 pub const LONGEST: usize = 4096;
 
-/// The most bytes of a quoted name.
+/// A quoted name has at most this many bytes.
 pub const LONGEST_NAME: usize = 255;

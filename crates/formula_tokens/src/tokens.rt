@@ -1,4 +1,4 @@
-//! A text as tokens, one after another.
+//! This module reads a text as tokens, one after another.
 
 ghost use Rattle.std.specs.Prelude.{◌≡◌, ◌≤◌, ◌<◌, ◌+◌, length, take, drop, bytes_eq, option_map};
 ghost use Rattle.formula_tokens.specs.Fault.{IsResult, fault_at};
@@ -11,7 +11,7 @@ use crate::cursor::Cursor;
 use crate::fault::{FormulaCause, FormulaFault};
 use crate::front::{Front, front_of};
 
-/// A token, and what is left behind it.
+/// A token has its place, its spelling, and what is left behind it.
 #[derive(Clone, Copy)]
 pub struct Token<'a> {
     pub place: u32,
@@ -19,7 +19,7 @@ pub struct Token<'a> {
     pub after: Cursor<'a>,
 }
 
-/// What a text leads to: a token, its end, or bytes that form no token.
+/// A text leads to a token, its end, or bytes that form no token.
 #[derive(Clone, Copy)]
 pub enum Lead<'a> {
     Token(Token<'a>),
@@ -28,21 +28,21 @@ pub enum Lead<'a> {
 }
 
 impl<'a> Token<'a> {
-    /// The token has this spelling.
+    /// Returns whether the token has this spelling.
     pub fn is(&self, spelling: &str) -> bool
         ensures { result ≡ bytes_eq self.now.spelling.now spelling.now }
     {
         self.spelling == spelling.as_bytes()
     }
 
-    /// The token is a number: it begins with a digit.
+    /// Returns whether the token is a number: it begins with a digit.
     pub fn is_number(&self) -> bool
         ensures { result ≡ is_number self.now.spelling.now }
     {
         matches!(self.spelling, [b, ..] if b.is_ascii_digit())
     }
 
-    /// A fault of this token.
+    /// Makes a fault of this token.
     pub fn fault(&self, cause: FormulaCause) -> FormulaFault
         ensures { result ≡ fault_at self.now.place cause }
     {
@@ -50,7 +50,7 @@ impl<'a> Token<'a> {
     }
 }
 
-/// What comes next.
+/// Returns what comes next.
 pub fn next_lead<'a>(cursor: Cursor<'a>) -> Lead<'a>
     ensures { Leads (tokens_at cursor.entry) result }
 {
@@ -77,7 +77,7 @@ pub fn next_lead<'a>(cursor: Cursor<'a>) -> Lead<'a>
     Lead::Finish(place)
 }
 
-// A token of so many bytes at the front.
+// Cuts a token of `count` bytes from the front.
 fn cut<'a>(place: u32, rest: &'a [u8], count: usize) -> Lead<'a>
     requires some { 0 < count }
     requires within { count ≤ length rest.now }
@@ -95,7 +95,7 @@ fn cut<'a>(place: u32, rest: &'a [u8], count: usize) -> Lead<'a>
     })
 }
 
-/// The next token, which has to be there.
+/// Returns the next token, which has to be there.
 pub fn next_token<'a>(cursor: Cursor<'a>) -> Result<Token<'a>, FormulaFault>
     ensures { IsResult token_of result (next (tokens_at cursor.entry)) }
 {
@@ -106,7 +106,7 @@ pub fn next_token<'a>(cursor: Cursor<'a>) -> Result<Token<'a>, FormulaFault>
     }
 }
 
-/// What is left behind this token, which has to stand next.
+/// Returns what is left behind this token, which has to come next.
 pub fn behind<'a>(cursor: Cursor<'a>, spelling: &str) -> Result<Cursor<'a>, FormulaFault>
     ensures { IsResult tokens_at result (behind spelling.now (tokens_at cursor.entry)) }
 {
@@ -118,7 +118,7 @@ pub fn behind<'a>(cursor: Cursor<'a>, spelling: &str) -> Result<Cursor<'a>, Form
     }
 }
 
-/// What is left behind this token, where it stands next.
+/// Returns what is left behind this token, if it comes next.
 pub fn behind_if<'a>(cursor: Cursor<'a>, spelling: &str) -> Option<Cursor<'a>>
     ensures { follows spelling.now (tokens_at cursor.entry) ≡ option_map tokens_at result }
 {

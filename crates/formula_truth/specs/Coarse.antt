@@ -1,4 +1,4 @@
--- Coarse bounds of the formulas inside: what so many rounded steps of the two questions give, with no run.
+-- Coarse bounds of the formulas inside are what a number of rounded steps of the two questions give, with no run.
 use Rattle.std.specs.Prelude.{◌≡◌, ◌<◌, ◌≤◌, ◌-◌, ℕ, Bool, true, List, length, slice_index, All}
 use Rattle.game_model.specs.Limits.{unit}
 use Rattle.game_model.specs.Query.{Query}
@@ -16,8 +16,8 @@ use Rattle.formula_truth.specs.Truth.{states, everywhere}
 use Rattle.formula_truth.specs.Bands.{Band, Bands, Known, known, exactly, negated, verdict_at}
 use Rattle.formula_truth.specs.Runs.{AreSwept, pessimistic, optimistic, units_at, mirrored}
 
--- The lower bounds are so many down steps of one question, and the upper ones the unit less as many of the swapped
--- other question.
+-- The lower bounds are the values of this many down steps of one question. The upper ones are the unit less those of as
+-- many down steps of the swapped other question.
 pub record AreStepped (low high : Query) (n asked : ℕ) (band : Band) : Type 0 where
   pub zero : List Bool
   pub is_zero : IsZeroSet high zero
@@ -26,7 +26,7 @@ pub record AreStepped (low high : Query) (n asked : ℕ) (band : Band) : Type 0 
   pub lower : (s : ℕ) → s < n → slice_index band.lower s ≡ down_steps low asked s
   pub upper : (s : ℕ) → s < n → slice_index band.upper s ≡ unit - down_steps (swapped high zero) asked s
 
--- the coarse bounds of a formula with a path of this kind, after so many rounds
+-- These are the coarse bounds of a formula with a path of this kind after this many rounds.
 abbrev pub AreCoarseBy : PathKind → Model → Tree → Known → Known → ℕ → Band → Type 0
 AreCoarseBy Until m f left right asked band =
     AreStepped (pessimistic m f left right) (optimistic m f left right) (states m) asked band
@@ -40,7 +40,7 @@ AreCoarseBy Always m f left right asked band =
     (other : Band) × AreStepped (pessimistic m (dual_of f) (exactly everywhere) (negated right))
     (optimistic m (dual_of f) (exactly everywhere) (negated right)) (states m) asked other × (band ≡ mirrored other)
 
--- each formula inside has such bounds
+-- Each formula inside has coarse bounds.
 abbrev pub AreCoarse : Model → ℕ → (x : State) → Bands x → Type 0
 AreCoarse m asked True b = Unit {0}
 AreCoarse m asked False b = Unit {0}
@@ -54,24 +54,25 @@ AreCoarse m asked (Inner team bound kind left right) b =
     (known m.labels left b.1) (known m.labels right b.2) asked b.0
     × AreCoarse m asked left b.1 × AreCoarse m asked right b.2
 
--- coarse bounds of a formula, and of the formulas inside its sides
+-- A formula has coarse bounds, and so has each formula inside its sides.
 pub record IsCoarse (m : Model) (f : Tree) (asked : ℕ) (left : Bands f.left) (right : Bands f.right)
     (band : Band) : Type 0 where
   pub left_coarse : AreCoarse m asked f.left left
   pub right_coarse : AreCoarse m asked f.right right
   pub coarse : AreCoarseBy f.kind m f (known m.labels f.left left) (known m.labels f.right right) asked band
 
--- what surely holds by the coarse bounds does by the others, and what possibly holds by these does by the coarse ones
+-- What surely holds by the coarse bounds surely holds by the fine ones, and what possibly holds by the fine bounds
+-- possibly holds by the coarse ones.
 pub record IsFiner (n : ℕ) (fine coarse : Known) : Type 0 where
   pub sure : (s : ℕ) → s < n → coarse.sure s ≡ true → fine.sure s ≡ true
   pub possible : (s : ℕ) → s < n → fine.possible s ≡ true → coarse.possible s ≡ true
 
--- a band leaves a bound undecided at a state only if the coarse one does
+-- A band leaves a bound undecided at a state only if the coarse band does.
 abbrev pub IsOpenWithin : Bound → Band → Band → ℕ → Type 0
 IsOpenWithin bound fine coarse s = is_undecided (verdict_at bound fine s) ≡ true
     → is_undecided (verdict_at bound coarse s) ≡ true
 
--- each formula inside is left undecided at so many states only where it is by the coarse bands
+-- Each formula inside is left undecided at one of the first states only if it is by the coarse bands.
 abbrev pub AreOpenWithin : ℕ → (x : State) → Bands x → Bands x → Type 0
 AreOpenWithin n True fine coarse = Unit {0}
 AreOpenWithin n False fine coarse = Unit {0}
@@ -84,8 +85,8 @@ AreOpenWithin n (Inner team bound kind left right) fine coarse =
     ((s : ℕ) → s < n → IsOpenWithin bound fine.0 coarse.0 s) × AreOpenWithin n left fine.1 coarse.1
     × AreOpenWithin n right fine.2 coarse.2
 
--- at each of these states a band leaves a bound undecided only if the coarse one does, and where the bound asks for a
--- value it lies within the coarse one
+-- At each of these states a band leaves a bound undecided only if the coarse band does. If the bound asks for a value,
+-- the band lies within the coarse band there.
 pub record AreWithin (bound : Bound) (starts : List ℕ) (fine coarse : Band) : Type 0 where
   pub undecided : All (λ s. IsOpenWithin bound fine coarse s) starts
   pub lower : is_asking bound ≡ true → All (λ s. slice_index coarse.lower s ≤ slice_index fine.lower s) starts

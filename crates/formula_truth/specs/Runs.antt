@@ -1,5 +1,5 @@
--- Bounds that are found for a formula whose sides are known in part: lower ones for the question of the sure states,
--- upper ones for that of the possible states.
+-- This module defines the bounds that are found for a formula whose sides are known in part: lower ones for the
+-- question of the sure states, and upper ones for that of the possible states.
 use Rattle.std.specs.Prelude.{◌≡◌, ℕ, Bool, List, if◌then◌else◌}
 use Rattle.std.specs.List.{range_with_len}
 use Rattle.game_model.specs.Limits.{unit}
@@ -27,12 +27,12 @@ use Rattle.formula_truth.specs.declared.way.Way.TheVariants.{ByRounds, BySolver}
 use Rattle.formula_truth.specs.Truth.{states, question_by, everywhere}
 use Rattle.formula_truth.specs.Bands.{Band, Bands, Known, known, exactly, negated}
 
--- how many rounds are asked for; with a solver none, which makes some where its bounds are far apart
+-- This many rounds are asked for. With a solver none are asked for, though it makes some if its bounds are far apart.
 abbrev pub rounds_of : Way → ℕ
 rounds_of (ByRounds asked) = asked
 rounds_of BySolver = 0
 
--- the bounds are a bracket of a question after at most so many rounds, over its zero set
+-- The bounds are a bracket of a question after at most this many rounds, over its zero set.
 pub record IsRun (q : Query) (bound : Bound) (starts : List ℕ) (asked : ℕ) (lower upper : List ℕ)
     (how : How) : Type 0 where
   pub zero : List Bool
@@ -43,8 +43,8 @@ pub record IsRun (q : Query) (bound : Bound) (starts : List ℕ) (asked : ℕ) (
   pub upper_is : upper ≡ found.upper.items
   pub rounds : how ≡ Rounds found.rounds
 
--- the bounds are those of a plan of a question that passes the checks of an audit and is sound, and which is 1 and 0
--- where the graph alone says so
+-- The bounds are those of a plan of a question that passes the checks of an audit and is sound. The lower bound is 1
+-- exactly at the almost-sure states, and the upper bound is 0 exactly at the states of value 0.
 pub record IsPlanned (q : Query) (lower upper : List ℕ) (how : How) : Type 0 where
   pub plan : Plan
   pub lists : HasStates plan (states_in q)
@@ -56,13 +56,13 @@ pub record IsPlanned (q : Query) (lower upper : List ℕ) (how : How) : Type 0 w
   pub upper_is : upper ≡ plan.upper.items
   pub solved : how ≡ Solved
 
--- a question is answered by these bounds, in this way; a plan speaks of no bound and of no states to begin with
+-- A question is answered by these bounds in this way. A plan does not depend on the bound and the states of `starts`.
 abbrev pub IsAnsweredBy : Way → Query → Bound → List ℕ → List ℕ → List ℕ → How → Type 0
 IsAnsweredBy (ByRounds asked) q bound starts lower upper how = IsRun q bound starts asked lower upper how
 IsAnsweredBy BySolver q bound starts lower upper how = IsPlanned q lower upper how
 
--- The lower bounds are those of an answer to one question, the upper ones those of an answer to another; of the same
--- answer where the questions are the same.
+-- The lower bounds are those of an answer to one question, and the upper ones those of an answer to another. If the
+-- questions are the same, they are the bounds of one answer.
 pub record AreAnswered (low high : Query) (bound : Bound) (starts : List ℕ) (way : Way) (band : Band)
     (how : How) : Type 0 where
   pub low_upper : List ℕ
@@ -72,8 +72,8 @@ pub record AreAnswered (low high : Query) (bound : Bound) (starts : List ℕ) (w
   pub high_answer : IsAnsweredBy way high bound starts high_lower band.upper high_how
   pub one : low ≡ high → low_upper ≡ band.upper
 
--- The lower bounds are so many down steps of one table for one question, the upper ones as many up steps of another for
--- another.
+-- The lower bounds are the values of this many down steps of one table for one question. The upper ones are the values
+-- of as many up steps of the other table for the other question.
 pub record AreSwept (low high : Query) (low_opening high_opening : ℕ → ℕ) (steps : ℕ) (band : Band)
     (how : How) : Type 0 where
   pub low_upper : List ℕ
@@ -82,24 +82,24 @@ pub record AreSwept (low high : Query) (low_opening high_opening : ℕ → ℕ) 
   pub high_swept : IsSweep high high_opening steps high_lower band.upper
   pub steps_are : how ≡ Steps steps
 
--- the question in which a side holds only where it surely does
+-- In this question a side holds only where it surely does.
 abbrev pub pessimistic : Model → Tree → Known → Known → Query
 pessimistic m f left right = question_by m f left.sure right.sure
 
--- the question in which a side holds wherever it possibly does
+-- In this question a side holds wherever it possibly does.
 abbrev pub optimistic : Model → Tree → Known → Known → Query
 optimistic m f left right = question_by m f left.possible right.possible
 
--- the unit at these states, else 0
+-- The entry is the unit at these states, and else 0.
 abbrev pub units_at : (ℕ → Bool) → ℕ → ℕ
 units_at holds s = if holds s then unit else 0
 
--- 1 less the bounds of the dual
+-- These are 1 less the bounds of the dual.
 abbrev pub mirrored : Band → Band
 mirrored band = record { lower = complements_of band.upper; upper = complements_of band.lower }
 
--- the bounds of a formula with a path of this kind, of which `starts` are the states where a run looks whether its
--- threshold is settled
+-- These are the bounds of a formula with a path of this kind. At the states of `starts` a run looks whether its
+-- threshold is settled.
 abbrev pub AreFoundBy : PathKind → Model → Tree → Known → Known → List ℕ → Way → Band → How → Type 0
 AreFoundBy Until m f left right starts way band how =
     AreAnswered (pessimistic m f left right) (optimistic m f left right) f.bound starts way band how
@@ -114,7 +114,7 @@ AreFoundBy Always m f left right starts way band how =
     (optimistic m (dual_of f) (exactly everywhere) (negated right)) (dual_bound f.bound) starts way other how
     × (band ≡ mirrored other)
 
--- each formula inside has bounds so, and a run of its rounds looks at every state
+-- Each formula inside has bounds found in this way, and a run of its rounds looks at every state.
 abbrev pub AreFound : Model → Way → (x : State) → Bands x → Type 0
 AreFound m way True b = Unit {0}
 AreFound m way False b = Unit {0}

@@ -1,4 +1,4 @@
-//! Laws of truth, of values and of bounds. Each function does nothing: its contract is the law.
+//! This module has the laws of truth, of values and of bounds. Each function does nothing: its contract is the law.
 
 mod coarse;
 mod truth;

@@ -1,10 +1,10 @@
-//! The ways in which questions without a bound on the steps are answered.
+//! This module has the ways in which questions without a bound on the steps are answered.
 
-/// How such a question is answered at all states.
+/// Such a question is answered in one of these ways at all states.
 #[derive(Clone, Copy, Debug, PartialEq, Eq)]
 pub enum Way {
-    /// By at most so many rounds of value iteration.
+    /// At most this many rounds of value iteration answer it.
     ByRounds(u32),
-    /// By a plan of a solver that passes the checks of an audit.
+    /// A plan of a solver that passes the checks of an audit answers it.
     BySolver,
 }

@@ -1,4 +1,4 @@
--- The numbers that texts spell: decimals with an optional point and exponent, and fractions.
+-- This module defines the numbers that texts spell: decimals with an optional point and exponent, and fractions.
 use Rattle.std.specs.Prelude.{◌≡◌, ◌≢◌, ℕ, ◌+◌, ◌*◌, ◌^◌, ◌==◌, ◌||◌, ◌≤◌, ◌⊎◌, nat_lt, Bool, true, false, List, []}
 use Rattle.std.specs.Prelude.{◌∷◌, ◌++◌, length, take, drop, Option, Some, None, option_map, Result, Ok, Err}
 use Rattle.std.specs.Prelude.{if◌then◌else◌}
@@ -9,36 +9,37 @@ use Rattle.fractions.specs.declared.number.NumberFault.TheVariants.{TooFine, Too
 use Rattle.fractions.specs.Limits.{finest, most_value, most_digits, most_exponent, most_exponent_digits}
 use Rattle.fractions.specs.Fraction.{Fraction, IsFraction, SameValue, lowest}
 
--- an exponent: whether it stands below zero, and its digits
+-- An exponent has a sign, which says whether it is below zero, and digits.
 pub record Exponent : Type 0 where
   pub below : Bool
   pub digits : List ℕ
 
--- where no exponent is written
+-- This is the exponent if none is written.
 abbrev pub no_exponent : Exponent
 no_exponent = record { below = false; digits = [] }
 
--- a number taken apart: the digits before and behind the point and the exponent, or the digits above and below the line
+-- A spelling is a number that is taken apart: the digits before and after the point and the exponent, or the digits
+-- above and below the line.
 pub data Spelling : Type 0 where
   Decimal : (front back : List ℕ) (exponent : Exponent) → Spelling
   Quotient : (above below : List ℕ) → Spelling
 
--- 1. The grammar.
+-- 1. These definitions are the grammar.
 
--- one or more digits
+-- There are one or more digits.
 abbrev pub AreDigits : List ℕ → Type 0
 AreDigits digits = (digits ≢ []) × (all_digits digits ≡ true)
 
--- nothing, or a point and zero or more digits
+-- The text is empty, or it is a point and zero or more digits.
 abbrev pub SpellsBack : List ℕ → List ℕ → Type 0
 SpellsBack text back = ((text ≡ []) × (back ≡ [])) ⊎ ((text ≡ 46 ∷ back) × (all_digits back ≡ true))
 
--- nothing, plus or minus
+-- The sign is nothing, plus or minus.
 abbrev pub SpellsSign : List ℕ → Bool → Type 0
 SpellsSign sign below = ((sign ≡ []) × (below ≡ false))
     ⊎ (((sign ≡ 43 ∷ []) × (below ≡ false)) ⊎ ((sign ≡ 45 ∷ []) × (below ≡ true)))
 
--- an `e` or `E`, a sign and digits
+-- The text is an `e` or `E`, a sign and digits.
 pub record SpellsPower (text : List ℕ) (exponent : Exponent) : Type 0 where
   pub letter : ℕ
   pub sign : List ℕ
@@ -47,11 +48,11 @@ pub record SpellsPower (text : List ℕ) (exponent : Exponent) : Type 0 where
   pub signed : SpellsSign sign exponent.below
   pub digits : AreDigits exponent.digits
 
--- nothing, or a power of ten
+-- The text is empty, or it is a power of ten.
 abbrev pub SpellsExponent : List ℕ → Exponent → Type 0
 SpellsExponent text exponent = ((text ≡ []) × (exponent ≡ no_exponent)) ⊎ SpellsPower text exponent
 
--- the text is a decimal: one or more digits, then a point and any digits or neither, then an exponent or none
+-- The text is a decimal: one or more digits, then a point and any digits or neither, then an exponent or none.
 pub record SpellsDecimal (text front back : List ℕ) (exponent : Exponent) : Type 0 where
   pub middle : List ℕ
   pub end : List ℕ
@@ -60,20 +61,20 @@ pub record SpellsDecimal (text front back : List ℕ) (exponent : Exponent) : Ty
   pub point : SpellsBack middle back
   pub power : SpellsExponent end exponent
 
--- the text is a fraction: digits, the line `/`, and digits
+-- The text is a fraction: digits, the line `/`, and digits.
 pub record SpellsQuotient (text above below : List ℕ) : Type 0 where
   pub parts : text ≡ above ++ 47 ∷ below
   pub numerator : AreDigits above
   pub denominator : AreDigits below
 
--- the text is spelled so
+-- The text has this spelling.
 abbrev pub Spells : List ℕ → Spelling → Type 0
 Spells text (Decimal front back exponent) = SpellsDecimal text front back exponent
 Spells text (Quotient above below) = SpellsQuotient text above below
 
--- 2. The value of a spelling, and its limits.
+-- 2. These definitions give the value of a spelling, and its limits.
 
--- what the digits say; not in lowest terms
+-- This is the value of the digits, not in lowest terms.
 abbrev pub value_of : Spelling → Fraction
 value_of (Decimal front back exponent) = record {
   num = value_onto 0 (front ++ back) * 10 ^ (if exponent.below then 0 else value_onto 0 exponent.digits);
@@ -81,13 +82,13 @@ value_of (Decimal front back exponent) = record {
 }
 value_of (Quotient above below) = record { num = value_onto 0 above; den = value_onto 0 below }
 
--- the number has more digits than may be read, or an exponent of too many digits or too far from 0
+-- The number has more digits than may be read, or an exponent of too many digits or too far from 0.
 abbrev pub is_long : Spelling → Bool
 is_long (Decimal front back exponent) = nat_lt most_digits (length front + length back)
     || (nat_lt most_exponent_digits (length exponent.digits) || nat_lt most_exponent (value_onto 0 exponent.digits))
 is_long (Quotient above below) = nat_lt most_digits (length above) || nat_lt most_digits (length below)
 
--- the text spells this fraction
+-- The text spells this fraction.
 pub record DenotesNumber (text : List ℕ) (f : Fraction) : Type 0 where
   pub spelling : Spelling
   pub spelled : Spells text spelling
@@ -96,70 +97,71 @@ pub record DenotesNumber (text : List ℕ) (f : Fraction) : Type 0 where
   pub value : SameValue f (value_of spelling)
   pub fraction : IsFraction f
 
--- 3. The fraction or the first fault, by cases on the text.
+-- 3. These definitions give the fraction or the first fault, by cases on the text.
 
--- how many digits stand at the front
+-- This is the number of digits at the front.
 abbrev pub digits_len : List ℕ → ℕ
 digits_len [] = 0
 digits_len (b ∷ bytes) = if is_digit b then digits_len bytes + 1 else 0
 
--- the digits at the front
+-- These are the digits at the front.
 abbrev pub leading_digits : List ℕ → List ℕ
 leading_digits text = take (digits_len text) text
 
--- what stands behind them
+-- These are the bytes after the digits at the front.
 abbrev pub behind_digits : List ℕ → List ℕ
 behind_digits text = drop (digits_len text) text
 
--- the exponent of this sign whose digits are all that is left, and at least one
+-- This is the exponent of this sign, if the rest of the text is one or more digits.
 abbrev pub exponent_digits : Bool → List ℕ → Option Exponent
 exponent_digits below [] = None
 exponent_digits below (b ∷ bytes) = if all_digits (b ∷ bytes) then Some
     (record { below = below; digits = b ∷ bytes }) else None
 
--- behind an `e`: a sign or none, and digits
+-- After an `e` come a sign or none, and digits.
 abbrev pub exponent_of : List ℕ → Option Exponent
 exponent_of [] = None
 exponent_of (b ∷ bytes) = if b == 45 then exponent_digits true bytes else
     (if b == 43 then exponent_digits false bytes else exponent_digits false (b ∷ bytes))
 
--- behind the digits of a decimal: nothing, or an exponent
+-- After the digits of a decimal comes nothing, or an exponent.
 abbrev pub decimal_of : List ℕ → List ℕ → List ℕ → Option Spelling
 decimal_of front back [] = Some (Decimal front back no_exponent)
 decimal_of front back (b ∷ bytes) = if b == 101 || b ==
     69 then option_map (Decimal front back) (exponent_of bytes) else None
 
--- behind the line of a fraction: digits
+-- After the line of a fraction come digits.
 abbrev pub quotient_of : List ℕ → List ℕ → Option Spelling
 quotient_of above [] = None
 quotient_of above (b ∷ bytes) = if all_digits (b ∷ bytes) then Some (Quotient above (b ∷ bytes)) else None
 
--- behind the first digits
+-- After the first digits comes the rest of a decimal or of a fraction.
 abbrev pub behind_front : List ℕ → List ℕ → Option Spelling
 behind_front front [] = decimal_of front [] []
 behind_front front (b ∷ bytes) = if b ==
     46 then decimal_of front (leading_digits bytes) (behind_digits bytes) else
     (if b == 47 then quotient_of front bytes else decimal_of front [] (b ∷ bytes))
 
--- how a text spells a number, as a decimal or as a fraction, where it spells one
+-- This is the spelling of a text as a decimal or as a fraction, if it has one.
 abbrev pub spelling_of : List ℕ → Option Spelling
 spelling_of text = if is_nil (leading_digits text) then None else behind_front (leading_digits text)
     (behind_digits text)
 
--- a fraction in lowest terms, where it is in range
+-- This is a fraction in lowest terms if it is in range, or its first fault.
 abbrev pub in_range : Fraction → Result Fraction NumberFault
 in_range f = if nat_lt finest f.den then Err TooFine else
     (if nat_lt (most_value * f.den) f.num then Err TooLarge else Ok f)
 
--- the fraction of the same value in lowest terms, or its first fault: its denominator is 0, or it is out of range
+-- This is the fraction of the same value in lowest terms, or its first fault: its denominator is 0, or it is out of
+-- range.
 abbrev pub fraction_said : Fraction → Result Fraction NumberFault
 fraction_said f = if f.den == 0 then Err ZeroDenominator else in_range (lowest f)
 
--- the fraction that a spelling stands for, or its first fault; without a spelling the text is no number
+-- This is the fraction that a spelling gives, or its first fault. Without a spelling the text is no number.
 abbrev pub spelling_said : Option Spelling → Result Fraction NumberFault
 spelling_said None = Err NotANumber
 spelling_said (Some spelling) = if is_long spelling then Err TooManyDigits else fraction_said (value_of spelling)
 
--- the fraction that a text spells, or its first fault
+-- This is the fraction that a text spells, or its first fault.
 abbrev pub number_said : List ℕ → Result Fraction NumberFault
 number_said text = spelling_said (spelling_of text)

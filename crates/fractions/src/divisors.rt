@@ -1,4 +1,4 @@
-//! Greatest common divisors and least common multiples.
+//! This module has greatest common divisors and least common multiples.
 
 ghost use Rattle.std.specs.Prelude.{◌≡◌, ◌<◌, ◌≤◌, MatchOption};
 ghost use Rattle.fractions.specs.Divisors.{gcd, lcm};
@@ -6,10 +6,10 @@ ghost use Rattle.fractions.specs.Limits.{finest};
 
 use crate::limits::FINEST;
 
-/// The greatest number of 64 bits.
+/// This is the greatest number of 64 bits.
 pub const MOST_NARROW: u128 = 18_446_744_073_709_551_615;
 
-/// The greatest common divisor, by Euclid's algorithm.
+/// Returns the greatest common divisor, by Euclid's algorithm.
 #[tactic(auto, using(crate::proofs::Euclid::gcd_step, crate::proofs::Euclid::gcd_zero))]
 pub fn greatest_common_divisor(a: u128, b: u128) -> u128
     ensures { result ≡ gcd a b }
@@ -24,7 +24,7 @@ pub fn greatest_common_divisor(a: u128, b: u128) -> u128
     greater
 }
 
-/// The greatest common divisor of numbers of 64 bits.
+/// Returns the greatest common divisor of numbers of 64 bits.
 #[tactic(auto, using(crate::proofs::Euclid::gcd_step, crate::proofs::Euclid::gcd_zero))]
 pub fn narrow_divisor(a: u64, b: u64) -> u64
     ensures { result ≡ gcd a b }
@@ -39,7 +39,7 @@ pub fn narrow_divisor(a: u64, b: u64) -> u64
     greater
 }
 
-/// The least common multiple, unless it is above the finest denominator.
+/// Returns the least common multiple, unless it is above the finest denominator.
 #[tactic(auto, using(crate::proofs::Euclid::lcm_above, crate::proofs::Euclid::lcm_below))]
 pub fn least_common_multiple(a: u128, b: u128) -> Option<u128>
     requires a_some { 1 ≤ a }
@@ -61,7 +61,7 @@ pub fn least_common_multiple(a: u128, b: u128) -> Option<u128>
     wide_multiple(a, b)
 }
 
-// The least common multiple of numbers of 64 bits: their product fits 128.
+// Returns the least common multiple of numbers of 64 bits: their product fits 128 bits.
 #[tactic(auto, using(crate::proofs::Euclid::lcm_above, crate::proofs::Euclid::lcm_below, crate::proofs::Euclid::lcm_by, crate::proofs::Euclid::gcd_some))]
 fn narrow_multiple(a: u64, b: u64) -> Option<u128>
     requires a_some { 1 ≤ a }
@@ -82,7 +82,7 @@ fn narrow_multiple(a: u64, b: u64) -> Option<u128>
     Some(multiple)
 }
 
-// The same of greater numbers: a division says whether their product fits.
+// Returns the least common multiple of greater numbers: a division says whether it is above the finest denominator.
 #[tactic(auto, using(crate::proofs::Euclid::lcm_by, crate::proofs::Euclid::gcd_some, crate::proofs::Euclid::product_above, crate::proofs::Euclid::product_below))]
 fn wide_multiple(a: u128, b: u128) -> Option<u128>
     requires a_some { 1 ≤ a }

@@ -1,4 +1,4 @@
-//! Fractions.
+//! This module has fractions.
 
 ghost use Rattle.std.specs.Prelude.{◌≡◌, ◌<◌, ◌≤◌, ◌+◌, ◌*◌, ◌^◌};
 ghost use Rattle.std.specs.Int.{IsGcd};
@@ -8,7 +8,7 @@ ghost use Rattle.fractions.specs.Fraction.{fraction_cmp, rest_of, IsFraction};
 use std::cmp::Ordering;
 use std::marker::Model;
 
-/// A number from 0 to 2 as a fraction in lowest terms, with a denominator of at most 10^23.
+/// A fraction is a number from 0 to 2 in lowest terms, with a denominator of at most 10^23.
 #[derive(Clone, Copy, Debug, PartialEq, Eq)]
 pub struct Frac {
     num: u128,
@@ -28,14 +28,14 @@ impl Model for Frac {
 }
 
 impl Frac {
-    /// What every fraction keeps.
+    /// Tells a proof which facts hold for every fraction. It does nothing.
     pub fn known(&self)
         ensures { IsFraction self.now }
     {
         let _ = &self.num;
     }
 
-    // The fraction of these numbers, which are in lowest terms.
+    // Returns the fraction of these numbers, which are in lowest terms.
     pub(crate) fn of(num: u128, den: u128) -> Frac
         requires lowest { IsGcd num den 1 }
         requires positive { 1 ≤ den }
@@ -46,7 +46,7 @@ impl Frac {
         Frac { num, den }
     }
 
-    /// The numerator.
+    /// Returns the numerator.
     pub fn num(&self) -> u128
         ensures value { result ≡ self.now.num }
         ensures small { result ≤ most_value * self.now.den }
@@ -55,7 +55,7 @@ impl Frac {
         self.num
     }
 
-    /// The denominator.
+    /// Returns the denominator.
     pub fn den(&self) -> u128
         ensures value { result ≡ self.now.den }
         ensures positive { 1 ≤ result }
@@ -64,7 +64,7 @@ impl Frac {
         self.den
     }
 
-    /// The number 1 less this one.
+    /// Returns 1 less this number.
     pub fn rest(&self) -> Frac
         requires { self.now.num ≤ self.now.den }
         ensures { result ≡ rest_of self.now }
@@ -73,7 +73,7 @@ impl Frac {
     }
 }
 
-/// The order of two fractions by value.
+/// Returns the order of two fractions by value.
 pub fn compare(a: &Frac, b: &Frac) -> Ordering
     ensures { result ≡ fraction_cmp a.now b.now }
 {
@@ -82,7 +82,7 @@ pub fn compare(a: &Frac, b: &Frac) -> Ordering
     left.high.cmp(&right.high).then(left.low.cmp(&right.low))
 }
 
-// How often 2^64 goes into a number, and what is left.
+// A wide number says how often 2^64 goes into it, and what remains.
 #[derive(Clone, Copy)]
 struct Wide {
     high: u128,

@@ -1,4 +1,4 @@
-//! Laws of numbers. Each function does nothing; its contract is the law.
+//! This module has the laws of numbers. Each function does nothing: its contract is the law.
 
 ghost use Rattle.std.specs.Prelude.{◌≡◌, ◌≤◌, ◌^◌, ◌↔◌, ℕ, List, Some, Ok};
 ghost use Prim.Native.Nat.{◌∣◌};
@@ -12,7 +12,7 @@ use crate::limits::{
     FINEST, FINEST_PLACES, MOST_DIGITS, MOST_EXPONENT, MOST_EXPONENT_DIGITS, MOST_VALUE,
 };
 
-/// The limits of the code are those of the definitions.
+/// The limits of the code are the limits of the definitions.
 pub fn limits()
     ensures finest { FINEST ≡ finest }
     ensures finest_places { 10 ^ FINEST_PLACES ≡ finest }
@@ -27,18 +27,18 @@ pub fn greatest_common_divisors()
     ensures { (a b : ℕ) → IsGcd a b (gcd a b) }
 {}
 
-/// The least common multiple is a multiple of both numbers, and divides each number that is.
+/// The least common multiple is a multiple of both numbers, and divides each common multiple.
 pub fn least_common_multiples()
     ensures multiple { (a b : ℕ) → 1 ≤ b → (a ∣ lcm a b) × (b ∣ lcm a b) }
     ensures least { (a b m : ℕ) → 1 ≤ b → a ∣ m → b ∣ m → lcm a b ∣ m }
 {}
 
-/// A text is taken apart as the grammar spells it, so it has one spelling at most.
+/// A text is taken apart as the grammar spells it, so it has at most one spelling.
 pub fn spellings()
     ensures { (text : List ℕ) (spelling : Spelling) → (spelling_of text ≡ Some spelling) ↔ Spells text spelling }
 {}
 
-/// What is said of a text by cases is the number that it denotes.
+/// The number that the cases give for a text is the number that the text denotes.
 pub fn numbers_are_those_that_a_text_denotes()
     ensures { (text : List ℕ) (f : Fraction) → (number_said text ≡ Ok f) ↔ DenotesNumber text f }
 {}

@@ -1,8 +1,8 @@
-//! Fractions in lowest terms, and the numbers that texts spell.
+//! This crate has fractions in lowest terms, and the numbers that texts spell.
 //!
-//! `read_number` gives the fraction that a text spells, as `0.25`, `1e-05` or `1/3`, or the first reason why it spells
-//! none. `compare` orders two fractions. Contracts see a `Frac` as a numerator over a denominator. Each call is exact:
-//! its answer is what the definitions say. None takes memory.
+//! `read_number` gives the fraction that a text spells, for example `0.25`, `1e-05` or `1/3`, or the first reason why
+//! it spells none. `compare` orders two fractions. Contracts see a `Frac` as a numerator over a denominator. Each call
+//! is exact: its answer is what the definitions say. No call takes memory.
 #![tactic(auto)]
 
 mod divisors;

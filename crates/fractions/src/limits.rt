@@ -1,19 +1,19 @@
-//! The limits, as `specs/Limits.antt` defines them: `laws::limits` says so.
+//! This module has the limits, as `specs/Limits.antt` defines them: `laws::limits` says so.
 
-/// The greatest denominator of a fraction, and of a choice.
+/// This is the greatest denominator of a fraction, and of a choice.
 pub const FINEST: u128 = 100_000_000_000_000_000_000_000;
 
-/// How many decimal places have it as their denominator.
+/// A decimal with this many places has the greatest denominator.
 pub const FINEST_PLACES: u32 = 23;
 
-/// The greatest value of a fraction.
+/// A fraction is at most this number.
 pub const MOST_VALUE: u128 = 2;
 
-/// The most digits of a decimal without its exponent, and of each side of a fraction.
+/// A decimal without its exponent, and each side of a fraction, has at most this many digits.
 pub const MOST_DIGITS: usize = 30;
 
-/// The most digits of an exponent.
+/// An exponent has at most this many digits.
 pub const MOST_EXPONENT_DIGITS: usize = 3;
 
-/// How far an exponent is from 0 at most.
+/// An exponent is at most this far from 0.
 pub const MOST_EXPONENT: u32 = 99;

@@ -1,4 +1,4 @@
-//! Fractions in lowest terms.
+//! This module puts fractions in lowest terms.
 
 ghost use Rattle.std.specs.Prelude.{◌≡◌, ◌<◌, ◌≤◌, ◌-◌, ◌*◌, ◌%◌, ◌^◌, ◌⊎◌, ◌≢◌, MatchOption};
 ghost use Rattle.std.specs.Int.{IsGcd};
@@ -12,10 +12,10 @@ use crate::limits::{FINEST, FINEST_PLACES, MOST_VALUE};
 use crate::number::NumberFault;
 use crate::tens::Tens;
 
-// The most places of a power of ten of 64 bits.
+// A power of ten of 64 bits has at most this many places.
 const NARROW_PLACES: u32 = 19;
 
-/// The fraction of two numbers in lowest terms, where it is in range.
+/// Returns the fraction of two numbers in lowest terms, if it is in range.
 pub fn checked(num: u128, den: u128) -> Result<Frac, NumberFault>
     requires lowest { IsGcd num den 1 }
     requires positive { 1 ≤ den }
@@ -30,7 +30,7 @@ pub fn checked(num: u128, den: u128) -> Result<Frac, NumberFault>
     Ok(Frac::of(num, den))
 }
 
-/// The fraction of two numbers.
+/// Returns the fraction of two numbers.
 pub fn quotient(above: u128, below: u128) -> Result<Frac, NumberFault>
     ensures { result ≡ fraction_said (record { num = above; den = below }) }
 {
@@ -44,7 +44,7 @@ pub fn quotient(above: u128, below: u128) -> Result<Frac, NumberFault>
     checked(above / divisor, below / divisor)
 }
 
-// The fraction of two numbers of 64 bits.
+// Returns the fraction of two numbers of 64 bits.
 fn narrow_quotient(above: u64, below: u64) -> Result<Frac, NumberFault>
     requires { 1 ≤ below }
     ensures { result ≡ fraction_said (record { num = above; den = below }) }
@@ -53,15 +53,15 @@ fn narrow_quotient(above: u64, below: u64) -> Result<Frac, NumberFault>
     checked(u128::from(above / divisor), u128::from(below / divisor))
 }
 
-// A number without a factor.
+// A rest is a number after a factor is taken out.
 #[derive(Clone, Copy)]
 struct Rest {
     number: u128,
-    // How often it can still be taken out.
+    // The factor may be taken out this many more times.
     left: u32,
 }
 
-// Takes a factor out of a number as often as it goes, but not more often than this.
+// Takes a factor out of a number as often as it divides the number, but at most `most` times.
 #[tactic(auto, using(crate::proofs::Powers::taken_out))]
 #[inline(always)]
 fn without(number: u128, factor: u128, most: u32) -> Rest
@@ -80,7 +80,7 @@ fn without(number: u128, factor: u128, most: u32) -> Rest
     Rest { number: rest, left }
 }
 
-// A product of powers of two and of five, unless it is above the finest denominator.
+// Returns a product of powers of two and of five, unless it is above the finest denominator.
 #[tactic(auto, using(crate::proofs::Powers::many_twos, crate::proofs::Powers::many_fives, crate::proofs::Powers::two_fits, crate::proofs::Powers::five_fits, crate::proofs::Powers::five_some, crate::proofs::Euclid::product_above, crate::proofs::Euclid::product_below))]
 fn powers(twos: u32, fives: u32) -> Option<u128>
     ensures value { MatchOption result (finest < 2 ^ twos * 5 ^ fives) (λ m. m ≡ 2 ^ twos * 5 ^ fives) }
@@ -99,7 +99,7 @@ fn powers(twos: u32, fives: u32) -> Option<u128>
     Some(two * five)
 }
 
-// Most decimals need no test by a division.
+// Returns the same product. Most decimals need no test by a division.
 #[tactic(auto, using(crate::proofs::Powers::few_powers, crate::proofs::Powers::two_fits, crate::proofs::Powers::five_fits))]
 fn denominator(twos: u32, fives: u32) -> Option<u128>
     ensures value { MatchOption result (finest < 2 ^ twos * 5 ^ fives) (λ m. m ≡ 2 ^ twos * 5 ^ fives) }
@@ -110,7 +110,7 @@ fn denominator(twos: u32, fives: u32) -> Option<u128>
     powers(twos, fives)
 }
 
-// So many digits over a power of ten.
+// Returns the fraction of these digits over a power of ten.
 fn over_tens(digits: u128, tens: u32) -> Result<Frac, NumberFault>
     ensures { result ≡ in_range (lowest (record { num = digits; den = 10 ^ tens })) }
 {
@@ -120,7 +120,7 @@ fn over_tens(digits: u128, tens: u32) -> Result<Frac, NumberFault>
     wide_over_tens(digits, tens)
 }
 
-// The same where a number needs more than 64 bits.
+// Returns the same fraction if a number needs more than 64 bits.
 fn wide_over_tens(digits: u128, tens: u32) -> Result<Frac, NumberFault>
     ensures { result ≡ in_range (lowest (record { num = digits; den = 10 ^ tens })) }
 {
@@ -135,7 +135,7 @@ fn wide_over_tens(digits: u128, tens: u32) -> Result<Frac, NumberFault>
     }
 }
 
-/// Digits times a power of ten, over a power of ten.
+/// Returns the fraction of digits times a power of ten, over a power of ten.
 pub fn decimal(digits: u128, up: u32, down: u32) -> Result<Frac, NumberFault>
     ensures { result ≡ fraction_said (record { num = digits * 10 ^ up; den = 10 ^ down }) }
 {

@@ -1,4 +1,4 @@
-//! Numbers as texts spell them.
+//! This module reads numbers as texts spell them.
 
 ghost use Rattle.std.specs.Prelude.{◌≡◌, ◌≤◌, ◌<◌, ◌+◌, ◌*◌, ◌^◌, ◌&&◌, not, true, Some, length, option_map};
 ghost use Rattle.text_lines.specs.Text.{is_nil, all_digits, value_onto};
@@ -12,7 +12,7 @@ use crate::lowest::{decimal, quotient};
 use crate::short::short_decimal;
 use text_lines::whole;
 
-/// Why a text spells no fraction: the first reason in this order.
+/// This says why a text spells no fraction. It is the first reason in this order.
 #[derive(Clone, Copy, Debug, PartialEq, Eq)]
 pub enum NumberFault {
     /// The text is neither a decimal nor a fraction.
@@ -27,14 +27,14 @@ pub enum NumberFault {
     TooLarge,
 }
 
-// An exponent as it is written; where none is, it has no digits.
+// This is an exponent as it is written. It has no digits if none is written.
 #[derive(Clone, Copy)]
 struct Power<'a> {
     below: bool,
     digits: &'a [u8],
 }
 
-// A number as it is written.
+// This is a number as it is written.
 #[derive(Clone, Copy)]
 enum Written<'a> {
     Point {
@@ -48,7 +48,7 @@ enum Written<'a> {
     },
 }
 
-// How many digits stand at the front.
+// Returns the number of digits at the front.
 fn digits_length(text: &[u8]) -> usize
     ensures value { result ≡ digits_len text.now }
     ensures within { result ≤ length text.now }
@@ -65,7 +65,7 @@ fn digits_length(text: &[u8]) -> usize
     count
 }
 
-// The digits at the front, and what stands behind them.
+// Returns the digits at the front, and the bytes after them.
 fn split_digits(text: &[u8]) -> (&[u8], &[u8])
     ensures leading { result.0.now ≡ leading_digits text.now }
     ensures behind { result.1.now ≡ behind_digits text.now }
@@ -73,7 +73,7 @@ fn split_digits(text: &[u8]) -> (&[u8], &[u8])
     text.split_at(digits_length(text))
 }
 
-// One or more digits, and nothing else.
+// Returns whether the text is one or more digits, and nothing else.
 #[tactic(auto, using(crate::proofs::Spelled::digits_whole))]
 fn only_digits(text: &[u8]) -> bool
     ensures { result ≡ (not (is_nil text.now) && all_digits text.now) }
@@ -91,7 +91,7 @@ fn power_of_digits(below: bool, digits: &[u8]) -> Option<Power<'_>>
     }
 }
 
-// The exponent behind an `e`.
+// Reads the exponent after an `e`.
 fn read_power(text: &[u8]) -> Option<Power<'_>>
     ensures { option_map exponent_in result ≡ exponent_of text.now }
 {
@@ -102,7 +102,7 @@ fn read_power(text: &[u8]) -> Option<Power<'_>>
     }
 }
 
-// The decimal with these digits, and with what stands behind them.
+// Reads the decimal with these digits before and after the point, and the text after them.
 fn read_decimal<'a>(front: &'a [u8], back: &'a [u8], text: &'a [u8]) -> Option<Written<'a>>
     ensures { option_map spelling_in result ≡ decimal_of front.now back.now text.now }
 {
@@ -123,7 +123,7 @@ fn read_decimal<'a>(front: &'a [u8], back: &'a [u8], text: &'a [u8]) -> Option<W
     }
 }
 
-// The fraction with these digits above the line, and with what stands behind it.
+// Reads the fraction with these digits above the line, and the text after it.
 fn read_quotient<'a>(above: &'a [u8], below: &'a [u8]) -> Option<Written<'a>>
     ensures { option_map spelling_in result ≡ quotient_of above.now below.now }
 {
@@ -157,7 +157,7 @@ fn read_spelling(text: &[u8]) -> Option<Written<'_>>
     read_behind(front, rest)
 }
 
-// The number whose digits are those of a number and then these.
+// Returns the number whose digits are those of a number and then these.
 fn digits_onto(before: u128, digits: &[u8]) -> u128
     requires digits { all_digits digits.now ≡ true }
     requires small { (before + 1) * 10 ^ length digits.now ≤ 10 ^ most_digits }
@@ -171,7 +171,7 @@ fn digits_onto(before: u128, digits: &[u8]) -> u128
     value
 }
 
-// The fraction of a decimal.
+// Returns the fraction of a decimal.
 #[tactic(auto, using(crate::proofs::Spelled::digits_room, crate::proofs::Spelled::digits_room_behind, crate::proofs::Spelled::power_room, crate::proofs::Spelled::value_append))]
 fn point_fraction(front: &[u8], back: &[u8], power: Power<'_>) -> Result<Frac, NumberFault>
     requires front { all_digits front.now ≡ true }
@@ -199,7 +199,7 @@ fn point_fraction(front: &[u8], back: &[u8], power: Power<'_>) -> Result<Frac, N
     }
 }
 
-// The fraction of two numbers.
+// Returns the fraction of two numbers.
 #[tactic(auto, using(crate::proofs::Spelled::digits_room))]
 fn line_fraction(above: &[u8], below: &[u8]) -> Result<Frac, NumberFault>
     requires above { all_digits above.now ≡ true }
@@ -215,7 +215,8 @@ fn line_fraction(above: &[u8], below: &[u8]) -> Result<Frac, NumberFault>
     quotient(digits_onto(0, above), digits_onto(0, below))
 }
 
-// The fraction that a text of any spelling denotes. It stands apart, so that short decimals are read in a small loop.
+// Returns the fraction that a text of any spelling denotes. It is a function of its own, so that short decimals are
+// read in a small loop.
 #[inline(never)]
 fn number_in(text: &[u8]) -> Result<Frac, NumberFault>
     ensures { result ≡ number_said text.now }
@@ -227,8 +228,8 @@ fn number_in(text: &[u8]) -> Result<Frac, NumberFault>
     }
 }
 
-/// The fraction that a text spells, or the first reason why it spells none. Most texts are short decimals. What is said
-/// of a text is what it denotes: `laws::numbers_are_those_that_a_text_denotes`.
+/// Returns the fraction that a text spells, or the first reason why it spells none. Most texts are short decimals. The
+/// answer is what the text denotes: `laws::numbers_are_those_that_a_text_denotes`.
 #[inline(always)]
 pub fn read_number(text: &[u8]) -> Result<Frac, NumberFault>
     ensures { result ≡ number_said text.now }

@@ -1,4 +1,5 @@
-//! Short decimals, which most numbers of a file are: one digit, or one before a point and at most 18 behind it.
+//! This module reads short decimals, which most numbers of a file are: one digit, or one digit before a point and at
+//! most 18 after it.
 
 ghost use Rattle.std.specs.Prelude.{◌≡◌, IfSome};
 ghost use Rattle.fractions.specs.Number.{number_said, fraction_said};
@@ -6,10 +7,11 @@ ghost use Rattle.fractions.specs.inside.Written.{AreDecimal};
 
 use crate::tens::Tens;
 
-// With one digit before the point they fit 64 bits.
+// With one digit before the point such a decimal fits 64 bits.
 const MOST_PLACES: usize = 18;
 
-/// What a short decimal spells, not in lowest terms. None where the text is something else.
+/// Returns the fraction that a short decimal spells, not in lowest terms. It returns none if the text is something
+/// else.
 #[inline(always)]
 pub fn short_decimal(text: &[u8]) -> Option<Tens>
     ensures { IfSome result (λ tens. number_said text.now ≡ fraction_said (record { num = tens.num; den = tens.den })) }
@@ -21,7 +23,7 @@ pub fn short_decimal(text: &[u8]) -> Option<Tens>
     }
 }
 
-// The decimal with this digit before the point and these behind it.
+// Returns the decimal with this digit before the point and these digits after it.
 #[inline(always)]
 fn over_places(front: u8, back: &[u8]) -> Option<Tens>
     ensures { IfSome result (AreDecimal front back.now) }

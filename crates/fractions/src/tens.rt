@@ -1,4 +1,4 @@
-//! Fractions over a power of ten, both of 64 bits.
+//! This module has fractions over a power of ten. Numerator and denominator are of 64 bits.
 
 ghost use Rattle.std.specs.Prelude.{◌≡◌, ◌≢◌, ◌≤◌, ◌<◌, ◌*◌, ◌/◌, ◌%◌, ◌^◌, ◌⊎◌};
 ghost use Prim.Native.Nat.{◌∣◌};
@@ -8,7 +8,7 @@ use crate::fraction::Frac;
 use crate::lowest::checked;
 use crate::number::NumberFault;
 
-/// A fraction over a power of ten, or what is left of one after factors are taken out.
+/// This is a fraction over a power of ten, or what is left of one after factors are taken out.
 #[derive(Clone, Copy)]
 pub struct Tens {
     num: u64,
@@ -17,7 +17,7 @@ pub struct Tens {
 }
 
 impl Tens {
-    /// The fraction of these numbers.
+    /// Returns the fraction of these numbers.
     pub fn new(num: u64, den: u64) -> Tens
         requires { den ∣ 10 ^ 19 }
         ensures num { result.num ≡ num }
@@ -26,7 +26,7 @@ impl Tens {
         Tens { num, den }
     }
 
-    /// In lowest terms, where it is in range.
+    /// Returns the fraction in lowest terms, if it is in range.
     #[inline(always)]
     pub fn fraction(self) -> Result<Frac, NumberFault>
         ensures { result ≡ fraction_said (record { num = self.num; den = self.den }) }
@@ -38,7 +38,7 @@ impl Tens {
         checked(u128::from(rest.num), u128::from(rest.den))
     }
 
-    // Two is taken out as often as both numbers have it.
+    // Takes out two as often as it divides both numbers.
     fn without_twos(self) -> Tens
         requires { 1 ≤ self.num }
         ensures value { result.num * self.den ≡ self.num * result.den }
@@ -51,7 +51,7 @@ impl Tens {
         }
     }
 
-    // Five is taken out as often as both numbers have it.
+    // Takes out five as often as it divides both numbers.
     fn without_fives(self) -> Tens
         ensures value { result.num * self.den ≡ self.num * result.den }
         ensures num { result.num ∣ self.num }
@@ -68,7 +68,7 @@ impl Tens {
     }
 }
 
-// How often two is a factor of a number.
+// Returns how often two is a factor of a number.
 fn twos_in(number: u64) -> u32
     requires { 1 ≤ number }
     ensures whole { 2 ^ result ∣ number }

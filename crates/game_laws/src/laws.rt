@@ -1,4 +1,4 @@
-//! Laws of rounded steps and of sound bounds, for every question and every table.
+//! This module has the laws of rounded steps and of sound bounds, for every question and every table.
 
 mod bounds;
 mod low;

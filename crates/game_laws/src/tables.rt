@@ -1,4 +1,4 @@
-//! The laws for a program's own question and tables.
+//! This module has the laws for a program's own question and tables.
 
 ghost use Rattle.std.specs.Prelude.{ℕ, ◌+◌, ◌*◌, ◌^◌, ◌<◌, ◌≤◌, ◌⊎◌, slice_index, slice_set};
 ghost use Rattle.game_model.specs.Query.{states};
@@ -9,7 +9,7 @@ ghost use Rattle.game_model.specs.Bounds.{IsLow, IsHigh, Reaches, Exceeds};
 
 use game_model::Question;
 
-/// A table whose entries are each at most that of a low table or its down value is low.
+/// If each entry of a table is at most that of a low table or its down value, the table is low.
 pub fn stays_low(question: &Question, table: &[u64], next: &[u64])
     requires low { IsLow question.now (slice_index table.now) }
     requires raised { (s : ℕ) → s < states question.now →
@@ -20,7 +20,7 @@ pub fn stays_low(question: &Question, table: &[u64], next: &[u64])
     question.known();
 }
 
-/// A low table stays low where one entry is raised to at most its down value.
+/// A low table stays low if one entry is raised to at most its down value.
 pub fn stays_low_when_raised(question: &Question, table: &[u64], state: u32, value: u64)
     requires low { IsLow question.now (slice_index table.now) }
     requires raised { value ≤ down_step question.now (slice_index table.now) state }
@@ -38,7 +38,7 @@ pub fn down_steps_in_order(question: &Question, table: &[u64], other: &[u64])
     question.known();
 }
 
-/// The r-fold down step rises with r, is at most the r-step value, and loses at most r units.
+/// The table of r down steps never falls when r grows, is at most the r-step values, and is at most r units below them.
 pub fn down_steps_of(question: &Question)
     ensures rises { (r : ℕ) → IsBelow question.now (down_steps question.now r) (down_steps question.now (r + 1)) }
     ensures below { (r s : ℕ) → down_steps question.now r s * denominator question.now.game ^ r
@@ -49,7 +49,7 @@ pub fn down_steps_of(question: &Question)
     question.known();
 }
 
-/// A settled table that is nowhere below the opening table is nowhere below an r-fold down step.
+/// If a settled table is nowhere below the opening table, it is nowhere below the table of r down steps.
 pub fn settled_is_above_down_steps(question: &Question, table: &[u64])
     requires opens { IsBelow question.now (opening question.now) (slice_index table.now) }
     requires settled { IsSettled question.now (slice_index table.now) }
@@ -58,7 +58,7 @@ pub fn settled_is_above_down_steps(question: &Question, table: &[u64])
     question.known();
 }
 
-/// An inductive table is above every k-step value.
+/// The entries of an inductive table are at least every k-step value.
 pub fn inductive_is_high(question: &Question, table: &[u64])
     requires { IsInductive question.now (slice_index table.now) }
     ensures { IsHigh question.now (slice_index table.now) }
@@ -66,7 +66,8 @@ pub fn inductive_is_high(question: &Question, table: &[u64])
     question.known();
 }
 
-/// What a low table says of a bound a/b.
+/// If an entry of a low table is at least a bound a/b, the values reach the bound. If it is above, they exceed the
+/// bound.
 pub fn low_and_bounds(question: &Question, table: &[u64])
     requires { IsLow question.now (slice_index table.now) }
     ensures reached { (a b s : ℕ) → s < states question.now → a * unit ≤ slice_index table.now s * b
@@ -77,7 +78,8 @@ pub fn low_and_bounds(question: &Question, table: &[u64])
     question.known();
 }
 
-/// What a high table says of a bound a/b.
+/// If an entry of a high table is at most a bound a/b, no value exceeds the bound. If it is below, the values do not
+/// reach the bound.
 pub fn high_and_bounds(question: &Question, table: &[u64])
     requires { IsHigh question.now (slice_index table.now) }
     ensures not_exceeded { (a b s : ℕ) → s < states question.now → slice_index table.now s * b ≤ a * unit

@@ -1,33 +1,33 @@
--- What contracts see of a question: a reachability query on a turn-based stochastic game.
+-- This module defines what contracts see of a question: a reachability query on a turn-based stochastic game.
 use Rattle.std.specs.Prelude.{◌≡◌, ℕ, Bool, true, false, List, length, slice_index_or}
 use Rattle.game_model.specs.declared.game.Side.{Side}
 use Rattle.game_model.specs.declared.game.Side.TheVariants.{Max}
 use Rattle.game_model.specs.Game.{Distribution, IsGame}
 
--- a question: the choices of each state, its side, and the marks goal and dead
+-- A question gives to each state its choices, its side, and the marks goal and dead.
 pub record Query : Type 0 where
   pub game : List (List Distribution)
   pub sides : List Side
   pub goals : List Bool
   pub deads : List Bool
 
--- how many states a question has
+-- A question has this many states.
 abbrev pub states : Query → ℕ
 states q = length q.game
 
--- whether a state is a goal
+-- This says whether a state is a goal.
 abbrev pub is_goal : Query → ℕ → Bool
 is_goal q s = slice_index_or q.goals s false
 
--- whether a state is dead
+-- This says whether a state is dead.
 abbrev pub is_dead : Query → ℕ → Bool
 is_dead q s = slice_index_or q.deads s false
 
--- who chooses at a state
+-- This side chooses at a state.
 abbrev pub side_at : Query → ℕ → Side
 side_at q s = slice_index_or q.sides s Max
 
--- what every question keeps
+-- These facts hold for every question.
 pub record IsQuery (q : Query) : Type 0 where
   pub game : IsGame q.game
   pub sides : length q.sides ≡ length q.game

@@ -1,15 +1,15 @@
--- A row in flat lists: the choices of a state, between the bounds of their edges.
+-- A row in flat lists holds the choices of a state, between the bounds of their edges.
 use Rattle.std.specs.Prelude.{ℕ, ◌+◌, ◌-◌, ◌<◌, ◌≤◌, List, length, slice_index}
 use Rattle.game_model.specs.Game.{Distribution, IsDistribution}
 use Rattle.game_model.specs.Limits.{most_choices}
 use Rattle.game_model.specs.Span.{span}
 use Rattle.game_model.specs.Flat.{distribution_at}
 
--- the choices between bounds
+-- These are the choices between the bounds.
 abbrev pub row_at : List ℕ → List ℕ → List ℕ → List ℕ → List ℕ → List Distribution
 row_at bounds totals to low high = span (distribution_at bounds totals to low high) 0 (length bounds - 1)
 
--- each bound lies within the lists, and before the next, and each choice is a distribution
+-- Each bound lies within the lists and is at most the next bound, and each choice is a distribution.
 pub record IsRow (bounds totals to low high : List ℕ) : Type 0 where
   pub some : 1 < length bounds
   pub few : length bounds ≤ most_choices + 1

@@ -1,4 +1,4 @@
-//! A builder of games, choice after choice, and the game of lists of choices.
+//! This module builds a game, choice after choice, or from lists of choices.
 
 ghost use Rattle.std.specs.Prelude.{◌≡◌, ◌+◌, ◌-◌, ◌/◌, ◌%◌, ◌^◌, ◌<◌, ◌≤◌, [], ◌∷◌, ◌++◌, length, map, All, IfOk, OnErr};
 ghost use Rattle.game_model.specs.Game.{IsDistribution, total_of};
@@ -12,7 +12,7 @@ use game_outside::OutOfMemory;
 use std::alloc::{AllocError, Global};
 use std::marker::Model;
 
-/// A game under way: the states that have ended, and the choices so far of the next one.
+/// A builder holds the states that have ended, and the choices of the next state that have been added so far.
 #[derive(Debug, Drop)]
 pub struct GameBuilder {
     first_choice: Vec<u32>,
@@ -36,8 +36,8 @@ impl Model for GameBuilder {
 }
 
 impl GameBuilder {
-    /// Nothing so far. The only error of this and the other calls is want of memory; more than 2^32 - 1
-    /// choices or edges count as that.
+    /// Returns an empty builder. This call and the others fail only if memory runs out; more than 2^32 - 1 choices or
+    /// edges count as that.
     pub fn new(alloc: Global) -> Result<GameBuilder, OutOfMemory>
         ensures { IfOk result (λ b. b ≡ no_states) }
     {
@@ -55,7 +55,7 @@ impl GameBuilder {
         })
     }
 
-    /// Adds a choice to the state under way.
+    /// Adds a choice to the state that is being built.
     pub fn push_choice(&mut self, choice: &Choice) -> Result<(), OutOfMemory>
         ensures ok { IfOk result (λ _. self.new ≡ with_choice self.old choice.now) }
         ensures err { OnErr result (self.new ≡ self.old) }
@@ -64,7 +64,7 @@ impl GameBuilder {
         self.push_edges(choice.total(), choice.edges())
     }
 
-    /// Adds the choice with this total and these edges to the state under way.
+    /// Adds the choice with this total and these edges to the state that is being built.
     pub fn push_edges(&mut self, total: u128, edges: &[Edge]) -> Result<(), OutOfMemory>
         requires { IsDistribution (record { total = total; edges = edges.now }) }
         ensures ok { IfOk result (λ _. self.new ≡ with_choice self.old (record { total = total; edges = edges.now })) }
@@ -81,7 +81,7 @@ impl GameBuilder {
         )
     }
 
-    /// Ends the state under way.
+    /// Ends the state that is being built.
     pub fn end_state(&mut self) -> Result<(), OutOfMemory>
         ensures ok { IfOk result (λ _. self.new ≡ with_state self.old) }
         ensures err { OnErr result (self.new ≡ self.old) }
@@ -94,7 +94,7 @@ impl GameBuilder {
         Ok(())
     }
 
-    /// Adds a state with these choices, where none is under way.
+    /// Adds a state with these choices. The state that is being built has no choice yet.
     pub fn add_state(&mut self, choices: &[Choice]) -> Result<(), OutOfMemory>
         requires { self.old.under_way ≡ [] }
         ensures { IfOk result (λ _. self.new ≡ between (self.old.done ++ choices.now ∷ [])) }
@@ -105,7 +105,7 @@ impl GameBuilder {
         self.end_state()
     }
 
-    /// The game of the states that have ended. A state that is under way is left out.
+    /// Returns the game of the states that have ended. A state that is being built is left out.
     pub fn finish(self) -> Game
         requires some { 0 < length self.done }
         requires few { length self.done ≤ most_states }
@@ -125,8 +125,8 @@ impl GameBuilder {
     }
 }
 
-/// Puts the choice with this total and these edges behind the others, or leaves the lists as they are where they are in
-/// use.
+/// Appends the choice with this total and these edges. After an error the parts of the lists that are in use are as
+/// before.
 fn add_choice(
     first_edge: &mut Vec<u32>,
     totals: &mut Vec<u64>,
@@ -163,7 +163,7 @@ fn add_choice(
     Ok(())
 }
 
-/// What is kept for a total: the total where it fits 64 bits, else 0.
+/// Returns the number that is kept for a total: the total if it fits 64 bits, else 0.
 fn kept(total: u128) -> u64
     ensures { result ≡ kept_total total }
 {
@@ -174,7 +174,7 @@ fn kept(total: u128) -> u64
     }
 }
 
-/// Puts edges behind the others, with the low words of their weights.
+/// Appends edges, with the low words of their weights.
 fn add_edges(to: &mut Vec<u32>, low: &mut Vec<u64>, edges: &[Edge]) -> Result<(), AllocError>
     ensures to { IfOk result (λ _. to.new.items ≡ to.old.items ++ map (λ e. e.to) edges.now) }
     ensures low { IfOk result (λ _. low.new.items ≡ low.old.items ++ map (λ e. e.weight % 2 ^ 64) edges.now) }
@@ -188,7 +188,7 @@ fn add_edges(to: &mut Vec<u32>, low: &mut Vec<u64>, edges: &[Edge]) -> Result<()
     Ok(())
 }
 
-/// Puts the high words of the weights at this place, where there are any.
+/// Puts the high words of the weights at this place if the total is 2^64 or more.
 fn add_high(
     high: &mut Vec<u64>,
     begin: usize,
@@ -207,7 +207,7 @@ fn add_high(
     Ok(())
 }
 
-/// Puts zeros behind, up to a length.
+/// Appends zeros, up to this length.
 fn pad(high: &mut Vec<u64>, begin: usize) -> Result<(), AllocError>
     requires { length high.old.items ≤ begin }
     ensures padded { IsPadded high.old.items high.new.items }
@@ -219,7 +219,7 @@ fn pad(high: &mut Vec<u64>, begin: usize) -> Result<(), AllocError>
     Ok(())
 }
 
-/// Puts the high words of the weights behind.
+/// Appends the high words of the weights.
 fn push_high(high: &mut Vec<u64>, edges: &[Edge]) -> Result<(), AllocError>
     ensures items { IfOk result (λ _. high.new.items ≡ high.old.items ++ map (λ e. e.weight / 2 ^ 64) edges.now) }
     ensures longer { IsLonger high.old.items high.new.items }
@@ -233,7 +233,7 @@ fn push_high(high: &mut Vec<u64>, edges: &[Edge]) -> Result<(), AllocError>
 impl Game {
     ghost use Rattle.game_model.specs.Made.{game_of};
 
-    /// The game with these choices at each state. The only error is want of memory.
+    /// Returns the game with these choices at each state. It fails only if memory runs out.
     pub fn from_choices(alloc: Global, choices: Vec<Vec<Choice>>) -> Result<Game, OutOfMemory>
         requires some { 0 < length choices.items }
         requires few { length choices.items ≤ most_states }

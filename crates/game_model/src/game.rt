@@ -1,6 +1,6 @@
-//! Finite turn-based stochastic games: for each state a list of choices, and for each choice a
-//! distribution over the states. With one side alone they are Markov decision processes (Baier and
-//! Katoen, Principles of Model Checking, 2008, chapter 10).
+//! This module has finite turn-based stochastic games: for each state a list of choices, and for each choice a
+//! distribution over the states. Games with only one side are Markov decision processes (Baier and Katoen, Principles
+//! of Model Checking, 2008, chapter 10).
 
 ghost use Rattle.std.specs.Prelude.{◌≡◌, ◌+◌, ◌-◌, ◌*◌, ◌^◌, ◌<◌, ◌≤◌, List, length, All, map};
 ghost use Rattle.game_model.specs.Limits.{total_bound};
@@ -8,20 +8,20 @@ ghost use Rattle.game_model.specs.Limits.{total_bound};
 use crate::row::{Row, part};
 use std::marker::Model;
 
-/// Who chooses at a state: the maximiser or the minimiser of the probability (Condon, The complexity
-/// of stochastic games, 1992).
+/// A side chooses at a state: the maximiser or the minimiser of the probability (Condon, The complexity of stochastic
+/// games, 1992).
 #[derive(Clone, Copy, Debug, PartialEq, Eq)]
 pub enum Side {
-    /// The maximiser.
+    /// This side maximises the probability.
     Max,
-    /// The minimiser.
+    /// This side minimises the probability.
     Min,
 }
 
 impl Side {
     ghost use Rattle.game_model.specs.Dual.{other_side};
 
-    /// The opponent.
+    /// Returns the opponent.
     pub fn other(self) -> Side
         ensures { result ≡ other_side self }
     {
@@ -32,17 +32,17 @@ impl Side {
     }
 }
 
-/// A successor of a choice, and its weight.
+/// An edge leads to a successor of a choice, and has a weight.
 #[derive(Clone, Copy, Debug, PartialEq, Eq)]
 pub struct Edge {
-    /// The successor.
+    /// The edge leads to this successor.
     pub to: u32,
-    /// The weight, at least 1. The probability is the weight over the total of the choice.
+    /// The weight is at least 1. The probability is the weight over the total of the choice.
     pub weight: u128,
 }
 
-/// A choice of a state: a distribution over the states, as edges by rising successor and the total of
-/// their weights, which is below 2^77.
+/// A choice of a state is a distribution over the states. It has edges, in the order of their successors, and the total
+/// of their weights, which is below 2^77.
 #[derive(Debug, Drop)]
 pub struct Choice {
     total: u128,
@@ -62,7 +62,7 @@ impl Model for Choice {
 impl Choice {
     ghost use Rattle.game_model.specs.Game.{Distribution, IsDistribution, IsRising, total_of};
 
-    /// The choice with these edges, whose total is the sum of their weights.
+    /// Returns the choice with these edges. Its total is the sum of their weights.
     pub fn of_edges(edges: Vec<Edge>) -> Choice
         requires some { 0 < length edges.items }
         requires rising { IsRising edges.items }
@@ -75,21 +75,21 @@ impl Choice {
         Choice { total, edges }
     }
 
-    /// Tells a proof what every choice keeps. It does nothing.
+    /// Tells a proof which facts hold for every choice. It does nothing.
     pub fn known(&self)
         ensures { IsDistribution self.now }
     {
         let _ = &self.total;
     }
 
-    /// The sum of the weights.
+    /// Returns the sum of the weights.
     pub fn total(&self) -> u128
         ensures { result ≡ self.now.total }
     {
         self.total
     }
 
-    /// The edges, by rising successor.
+    /// Returns the edges, in the order of their successors.
     pub fn edges(&self) -> &[Edge]
         ensures { result.now ≡ self.now.edges }
     {
@@ -97,14 +97,14 @@ impl Choice {
     }
 }
 
-/// A game: for each state a list of at least one choice. The states are numbered from 0, and so are the
-/// choices of a state and the edges of a choice.
+/// A game has for each state a list of at least one choice. The states are numbered from 0, and so are the choices of a
+/// state and the edges of a choice.
 ///
 /// It lies in flat lists: where the choices of each state begin, where the edges of each choice begin and its total,
-/// and for each edge its successor and its weight. For a total of 2^64 or more 0 is kept, and it is added up when it is
-/// asked for. A weight has a low word, and a high word only where some total is 2^64 or more; behind the end of the
-/// high words each is 0. So a choice takes 12 bytes and an edge 12, and an edge 8 more up to the last choice whose
-/// weights are that wide.
+/// and for each edge its successor and its weight. If a total is 2^64 or more, 0 is kept for it, and it is added up
+/// when it is asked for. A weight has a low word, and a high word if some total is 2^64 or more; past the end of the
+/// high words each is 0. So a choice takes 12 bytes and an edge 12, and an edge takes 8 more up to the last choice
+/// whose weights are that wide.
 #[derive(Debug, Drop)]
 pub struct Game {
     pub(crate) first_choice: Vec<u32>,
@@ -131,21 +131,21 @@ impl Model for Game {
 impl Game {
     ghost use Rattle.game_model.specs.Game.{Distribution, IsGame, choices_of, choice_of, edge_of, choices_below, edges_below, successors_between};
 
-    /// Tells a proof what every game keeps. It does nothing.
+    /// Tells a proof which facts hold for every game. It does nothing.
     pub fn known(&self)
         ensures { IsGame self.now }
     {
         let _ = &self.to;
     }
 
-    /// How many states there are.
+    /// Returns the number of states.
     pub fn states(&self) -> u32
         ensures { result ≡ length self.now }
     {
         (self.first_choice.len() - 1) as u32
     }
 
-    /// How many choices a state has, at least 1.
+    /// Returns the number of choices of a state, which is at least 1.
     pub fn choices_of(&self, state: u32) -> u32
         requires { state < length self.now }
         ensures { result ≡ length (choices_of self.now state) }
@@ -153,7 +153,8 @@ impl Game {
         self.first_choice[state as usize + 1] - self.first_choice[state as usize]
     }
 
-    /// How many choices the states below this one have together; with the number of states, how many there are.
+    /// Returns how many choices the states below `state` have together. If `state` is the number of states, that is all
+    /// choices.
     pub fn choices_below(&self, state: u32) -> u64
         requires { state ≤ length self.now }
         ensures value { result ≡ choices_below self.now state }
@@ -162,7 +163,8 @@ impl Game {
         u64::from(self.first_choice[state as usize])
     }
 
-    /// How many edges the states below this one have together; with the number of states, how many there are.
+    /// Returns how many edges the states below `state` have together. If `state` is the number of states, that is all
+    /// edges.
     pub fn edges_below(&self, state: u32) -> u64
         requires { state ≤ length self.now }
         ensures value { result ≡ edges_below self.now state }
@@ -171,7 +173,7 @@ impl Game {
         u64::from(self.first_edge[self.first_choice[state as usize] as usize])
     }
 
-    /// The choices of a state.
+    /// Returns the choices of a state.
     #[inline(always)]
     pub fn row(&self, state: u32) -> Row<'_>
         requires { state < length self.now }
@@ -188,7 +190,7 @@ impl Game {
         }
     }
 
-    /// The total of a choice: the sum of its weights.
+    /// Returns the total of a choice, which is the sum of its weights.
     #[inline(always)]
     pub fn total(&self, state: u32, choice: u32) -> u128
         requires state { state < length self.now }
@@ -200,7 +202,7 @@ impl Game {
         self.row(state).total(choice)
     }
 
-    /// How many edges a choice has, at least 1.
+    /// Returns the number of edges of a choice, which is at least 1.
     #[inline(always)]
     pub fn edge_count(&self, state: u32, choice: u32) -> u32
         requires state { state < length self.now }
@@ -210,7 +212,7 @@ impl Game {
         self.row(state).edge_count(choice)
     }
 
-    /// The successors of a choice, rising.
+    /// Returns the successors of a choice, in rising order.
     #[inline(always)]
     pub fn successors(&self, state: u32, choice: u32) -> &[u32]
         requires state { state < length self.now }
@@ -220,7 +222,7 @@ impl Game {
         self.row(state).successors(choice)
     }
 
-    /// The successors of all edges of the states from `from` up to and not including `to`, in order.
+    /// Returns the successors of all edges of the states from `from` up to and not including `to`, in order.
     pub fn successors_between(&self, from: u32, to: u32) -> &[u32]
         requires order { from ≤ to }
         requires inside { to ≤ length self.now }
@@ -233,7 +235,7 @@ impl Game {
         part(&self.to, begin as usize, end as usize)
     }
 
-    /// An edge of a choice. The successors rise with the place.
+    /// Returns an edge of a choice. The successors rise with the place.
     #[inline(always)]
     pub fn edge(&self, state: u32, choice: u32, place: u32) -> Edge
         requires state { state < length self.now }

@@ -1,9 +1,9 @@
-//! Games, reachability questions about them, and the values that they have.
+//! This crate has games, reachability questions about them, and the values of these questions.
 //!
 //! A game is made of choices ([`Choice::of_edges`]), all at once by [`Game::from_choices`] or one after another by a
-//! [`GameBuilder`]. [`Question::build`] asks of it with which probability a goal is reached. The definition of that
-//! value is in `specs/Values.antt`: whole numerators over one common denominator, by backward recursion over the number
-//! of steps. No program forms them: programs compute with whole numbers of units, of which [`UNIT`] are probability 1,
+//! [`GameBuilder`]. [`Question::build`] asks with which probability a goal is reached. The definition of that value is
+//! in `specs/Values.antt`: whole numerators over one common denominator, by backward recursion over the number of
+//! steps. Programs never compute them: they compute with whole numbers of units, of which [`UNIT`] are probability 1,
 //! and `specs/Rounded.antt` has the Bellman operator over them. `specs/Bounds.antt` says what a sound lower and a sound
 //! upper table are, and [`laws`] has the laws of the values.
 #![tactic(auto)]
@@ -29,5 +29,5 @@ fn shares_all(choice: &Choice, question: &Question, marks: &Marks) {
     shares(marks);
 }
 
-/// What threads may share.
+/// Only a type that threads may share is accepted here.
 fn shares<T: Sync>(_value: &T) {}

@@ -1,7 +1,7 @@
-//! Questions about games, and marks of states. A question is a reachability query: with which
-//! probability is a goal reached, where the maximiser and the minimiser play as well as they can (Condon
-//! 1992; with coalitions of players Chen, Forejt, Kwiatkowska, Parker and Simaitis, Automatic
-//! verification of competitive stochastic systems, TACAS 2012)?
+//! This module has questions about games, and marks of states. A question is a reachability query: with which
+//! probability is a goal reached if the maximiser and the minimiser play as well as they can (Condon 1992; with
+//! coalitions of players Chen, Forejt, Kwiatkowska, Parker and Simaitis, Automatic verification of competitive
+//! stochastic systems, TACAS 2012)?
 
 ghost use Rattle.std.specs.Prelude.{◌≡◌, ℕ, ◌<◌, ◌≤◌, List, length, slice_index_or, Bool, true, false, count_by};
 ghost use Rattle.game_model.specs.Limits.{most_states};
@@ -10,8 +10,8 @@ use crate::game::{Game, Side};
 use crate::row::Row;
 use std::marker::Model;
 
-/// A question: a game, the side that chooses at each state, and which states are goals and which are
-/// dead. A run that comes to a dead state no longer reaches a goal.
+/// A question has a game, and says which side chooses at each state, and which states are goals and which are dead. A
+/// play that comes to a dead state reaches no goal any more.
 #[derive(Drop)]
 pub struct Question<'g> {
     game: &'g Game,
@@ -44,7 +44,7 @@ impl<'g> Question<'g> {
     ghost use Rattle.game_model.specs.Game.{choices_of};
     ghost use Rattle.game_model.specs.Query.{Query, IsQuery, states, is_goal, is_dead, side_at};
 
-    /// The question that these lists pose. No state is both goal and dead.
+    /// Returns the question that these lists pose. No state is both goal and dead.
     pub fn build(game: &'g Game, sides: Vec<Side>, goal: Vec<bool>, dead: Vec<bool>) -> Question<'g>
         requires sides { length sides.items ≡ length game.now }
         requires goal { length goal.items ≡ length game.now }
@@ -65,21 +65,21 @@ impl<'g> Question<'g> {
         }
     }
 
-    /// Tells a proof what every question keeps. It does nothing.
+    /// Tells a proof which facts hold for every question. It does nothing.
     pub fn known(&self)
         ensures { IsQuery self.now }
     {
         let _ = &self.game;
     }
 
-    /// The game.
+    /// Returns the game.
     pub fn game(&self) -> &'g Game
         ensures { result.now ≡ self.now.game }
     {
         self.game
     }
 
-    /// The choices of a state.
+    /// Returns the choices of a state.
     #[inline(always)]
     pub fn row(&self, state: u32) -> Row<'g>
         requires { state < states self.now }
@@ -88,7 +88,7 @@ impl<'g> Question<'g> {
         self.game.row(state)
     }
 
-    /// Who chooses at a state.
+    /// Returns the side that chooses at a state.
     pub fn side(&self, state: u32) -> Side
         requires { state < states self.now }
         ensures { result ≡ side_at self.now state }
@@ -96,7 +96,7 @@ impl<'g> Question<'g> {
         self.sides[state as usize]
     }
 
-    /// Whether a state is a goal.
+    /// Returns whether a state is a goal.
     pub fn is_goal(&self, state: u32) -> bool
         requires { state < states self.now }
         ensures { result ≡ is_goal self.now state }
@@ -104,7 +104,7 @@ impl<'g> Question<'g> {
         self.goals[state as usize]
     }
 
-    /// Whether a state is dead.
+    /// Returns whether a state is dead.
     pub fn is_dead(&self, state: u32) -> bool
         requires { state < states self.now }
         ensures { result ≡ is_dead self.now state }
@@ -113,7 +113,7 @@ impl<'g> Question<'g> {
     }
 }
 
-/// One truth value for each state.
+/// Marks hold one truth value for each state.
 #[derive(Drop)]
 pub struct Marks {
     marks: Vec<bool>,
@@ -131,7 +131,7 @@ impl Model for Marks {
 }
 
 impl Marks {
-    /// The marks of this list.
+    /// Returns the marks of this list.
     pub fn of_list(marks: Vec<bool>) -> Marks
         requires { length marks.items ≤ most_states }
         ensures { result ≡ marks.items }
@@ -139,7 +139,7 @@ impl Marks {
         Marks { marks }
     }
 
-    /// Whether a state is marked.
+    /// Returns whether a state is marked.
     pub fn has(&self, state: u32) -> bool
         requires { state < length self.now }
         ensures { result ≡ slice_index_or self.now state false }
@@ -147,7 +147,7 @@ impl Marks {
         self.marks[state as usize]
     }
 
-    /// How many states are marked.
+    /// Returns the number of marked states.
     pub fn count(&self) -> u32
         ensures { result ≡ count_by (λ b. b) self.now }
     {

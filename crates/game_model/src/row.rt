@@ -1,4 +1,4 @@
-//! The choices of one state.
+//! This module has the choices of one state.
 
 ghost use Rattle.std.specs.Prelude.{◌≡◌, ℕ, ◌+◌, ◌-◌, ◌*◌, ◌^◌, ◌<◌, ◌≤◌, length, slice_index, map, take, drop};
 ghost use Rattle.game_model.specs.Limits.{total_bound};
@@ -6,9 +6,10 @@ ghost use Rattle.game_model.specs.Limits.{total_bound};
 use crate::game::Edge;
 use std::marker::Model;
 
-/// The choices of a state, after one look at the lists of its game: the bounds of the edges of each choice, its
-/// total, or 0 where that is 2^64 or more, and the successors and weights of all edges. Who goes over the choices of a
-/// state takes its row first: between loads of words that threads share, what lies behind the game would be read anew.
+/// A row has the choices of a state, after one look at the lists of its game: the bounds of the edges of each choice,
+/// its total (or 0 if that is 2^64 or more), and the successors and weights of all edges. Code that goes over the
+/// choices of a state takes its row first: otherwise the fields of the game would be read anew between loads of words
+/// that threads share.
 #[derive(Drop)]
 pub struct Row<'g> {
     pub(crate) bounds: &'g [u32],
@@ -34,7 +35,7 @@ impl<'g> Model for Row<'g> {
 impl<'g> Row<'g> {
     ghost use Rattle.game_model.specs.Game.{Distribution, IsDistribution, choice_among, edge_in};
 
-    /// Tells a proof what every row keeps. It does nothing.
+    /// Tells a proof which facts hold for every row. It does nothing.
     #[inline(always)]
     pub fn known(&self)
         ensures some { 0 < length self.now }
@@ -43,7 +44,8 @@ impl<'g> Row<'g> {
         let _ = &self.to;
     }
 
-    /// The same row once more, for a call that is not inlined: a row that is handed to one no longer lies in registers.
+    /// Returns the same row once more, for a call that is not inlined: a row that is handed to such a call no longer
+    /// lies in registers.
     #[inline(always)]
     pub fn again(&self) -> Row<'g>
         ensures { result ≡ self.now }
@@ -57,7 +59,7 @@ impl<'g> Row<'g> {
         }
     }
 
-    /// How many choices there are, at least 1.
+    /// Returns the number of choices, which is at least 1.
     #[inline(always)]
     pub fn choices(&self) -> u32
         ensures { result ≡ length self.now }
@@ -65,7 +67,7 @@ impl<'g> Row<'g> {
         (self.bounds.len() - 1) as u32
     }
 
-    /// The total of a choice: the sum of its weights.
+    /// Returns the total of a choice, which is the sum of its weights.
     #[inline(always)]
     pub fn total(&self, choice: u32) -> u128
         requires { choice < length self.now }
@@ -80,7 +82,7 @@ impl<'g> Row<'g> {
         u128::from(total)
     }
 
-    /// The total of a choice, added up anew.
+    /// Adds up the total of a choice anew.
     #[inline(never)]
     fn added_total(&self, choice: u32) -> u128
         requires { choice < length self.now }
@@ -94,7 +96,7 @@ impl<'g> Row<'g> {
         total
     }
 
-    /// How many edges a choice has, at least 1.
+    /// Returns the number of edges of a choice, which is at least 1.
     #[inline(always)]
     pub fn edge_count(&self, choice: u32) -> u32
         requires { choice < length self.now }
@@ -103,7 +105,7 @@ impl<'g> Row<'g> {
         self.bounds[choice as usize + 1] - self.bounds[choice as usize]
     }
 
-    /// The successors of a choice, rising.
+    /// Returns the successors of a choice, in rising order.
     #[inline(always)]
     pub fn successors(&self, choice: u32) -> &'g [u32]
         requires { choice < length self.now }
@@ -114,7 +116,7 @@ impl<'g> Row<'g> {
         part(self.to, from as usize, to as usize)
     }
 
-    /// The weights of a choice whose total fits 64 bits, in the order of its successors.
+    /// Returns the weights of a choice whose total fits 64 bits, in the order of its successors.
     #[inline(always)]
     pub fn narrow_weights(&self, choice: u32) -> &'g [u64]
         requires choice { choice < length self.now }
@@ -126,7 +128,7 @@ impl<'g> Row<'g> {
         part(self.low, from as usize, to as usize)
     }
 
-    /// An edge of a choice. The successors rise with the place.
+    /// Returns an edge of a choice. The successors rise with the place.
     #[inline(always)]
     pub fn edge(&self, choice: u32, place: u32) -> Edge
         requires choice { choice < length self.now }
@@ -141,7 +143,7 @@ impl<'g> Row<'g> {
     }
 }
 
-/// A part of a list.
+/// Returns a part of a list.
 #[inline(always)]
 pub(crate) fn part<T>(xs: &[T], from: usize, to: usize) -> &[T]
     requires order { from ≤ to }
@@ -151,7 +153,7 @@ pub(crate) fn part<T>(xs: &[T], from: usize, to: usize) -> &[T]
     &xs[from..to]
 }
 
-/// The entry at a place, or 0 past the end.
+/// Returns the entry at a place, or 0 past the end.
 #[inline(always)]
 fn entry(xs: &[u64], at: usize) -> u64
     ensures { result ≡ slice_index xs.now at }
@@ -159,7 +161,7 @@ fn entry(xs: &[u64], at: usize) -> u64
     if at < xs.len() { xs[at] } else { 0 }
 }
 
-/// A weight of its two words.
+/// Returns the weight that has these two words.
 #[inline(always)]
 fn weight_of(low: u64, high: u64) -> u128
     ensures { result ≡ low + 2 ^ 64 * high }

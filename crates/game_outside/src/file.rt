@@ -1,4 +1,4 @@
-//! Files that are read by lines.
+//! This module reads files by lines.
 
 ghost use Rattle.std.specs.Prelude.{◌≡◌, ◌≤◌};
 ghost use Rattle.text_lines.specs.Limits.{most_bytes};
@@ -10,10 +10,10 @@ use crate::shelf::{ReadEnd, Shelf};
 use std::alloc::Global;
 use text_lines::{Feed, LineReader};
 
-/// Why a file gives nothing.
+/// This says why a file gives nothing.
 #[derive(Clone, Copy, Debug, PartialEq, Eq, Drop)]
 pub enum FileEnd<F> {
-    /// Memory was wanting.
+    /// Memory ran out.
     OutOfMemory,
     /// A call of the shelf failed.
     ReadFault,
@@ -37,9 +37,9 @@ impl<F: Drop> From<ReadEnd> for FileEnd<F> {
     }
 }
 
-/// What a reader makes of the text under a name, which comes in pieces. Of the text it keeps a piece and a line. A
-/// fault of reading, and a text that is too long, come before the reader's refusal, so the rest of the text is taken
-/// first.
+/// Returns what a reader makes of the text under a name, which comes in pieces. It keeps one piece of the text and one
+/// line. A fault of reading, and a text that is too long, take precedence over the reader's refusal, so the rest of the
+/// text is taken first.
 pub fn read_lines_from<H: Shelf, R: LineReader>(
     alloc: Global,
     shelf: &mut H,
@@ -51,12 +51,12 @@ where
     R::Fault: Drop,
     requires { limit ≤ most_bytes }
 
-    // The answer is the reader's for the whole text, in whatever pieces this comes.
+    // The answer is the reader's for the whole text, however it is cut into pieces.
     ensures reads { ReadsFile (λ text answer. R.answers reader 1 (significant (lines_of text)) answer)
         (H.held shelf.old) name.now limit result }
 
-    // It fails only where the shelf fails, takes little more than the limit, and changes nothing of what the shelf
-    // holds.
+    // It answers a fault of reading only if the shelf fails, takes at most a piece more than the limit, and changes
+    // nothing of what the shelf holds.
     ensures shelf { LeavesShelf H.Shelf name.now limit shelf.old shelf.new result }
 {
     let mut text = LineText::begin(alloc, shelf, name, limit)?;

@@ -1,4 +1,4 @@
-//! Gates for tests: each holds workers, so that a test can see what they do at once or late.
+//! This module has gates for tests: each holds workers, so that a test can see what they do at once or late.
 
 mod hold_gate;
 mod late_gate;

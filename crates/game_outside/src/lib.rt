@@ -1,16 +1,18 @@
-//! The outside of the program as traits: a shelf of named texts, a sink of bytes, and a gate for the workers.
+//! This crate has the outside of the program as traits: a shelf of named texts, a sink of bytes, and a gate for the
+//! workers.
 //!
 //! `read_lines_from` passes the lines of a text on a `Shelf` to a reader, a piece at a time (`LineText`), `read_all`
 //! holds a whole text, and `write_all` puts a whole text into a `Sink`. What is promised of them rests on what the
-//! object tells: its texts and its bytes where it tells them, and always a count of faults that never falls. A call
-//! answers a fault only where this count rose, so a program that reports a fault can't have made it up. Over real files
-//! nothing of the content is told, and all else holds.
+//! object tells: its texts and its bytes if it tells them, and always a count of faults that never falls. A call
+//! answers a fault only if this count rose, so a program that reports a fault can't have made it up. For real files
+//! nothing of the content is told, and everything else holds.
 //!
 //! `SteadyShelf` and `SteadySink` hold texts in memory and never fail. `MemShelf` and `MemSink` work in small steps and
-//! fail in exactly the calls that are named, so that a test can let each call fail in turn. A `HoldGate` holds two
-//! workers until both have arrived, and a `LateGate` holds one until the others have arrived so often.
+//! fail in the calls that are named, so that a test can let each call fail in turn; a `MemShelf` also fails at a name
+//! that it doesn't hold. A `HoldGate` holds two workers until both have arrived, and a `LateGate` holds one worker
+//! until the others have arrived a given number of times.
 //!
-//! Nothing is promised of what a real file holds, of how a text is cut into pieces, nor that memory is there.
+//! Nothing is promised of what a real file holds, of how a text is cut into pieces, nor that there is enough memory.
 #![tactic(auto)]
 
 mod file;
@@ -45,7 +47,7 @@ pub use whole::read_all;
 #[derive(Clone, Copy, Debug, PartialEq, Eq, Drop)]
 pub struct Failed {}
 
-/// Memory was wanting.
+/// Memory ran out.
 #[derive(Clone, Copy, Debug, PartialEq, Eq, Drop)]
 pub struct OutOfMemory {}
 

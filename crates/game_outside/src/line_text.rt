@@ -1,4 +1,4 @@
-//! Texts that are read by lines, a piece at a time.
+//! This module reads texts by lines, a piece at a time.
 
 ghost use Rattle.std.specs.Prelude.{◌≡◌, ◌≢◌, ◌<◌, ◌≤◌, ◌+◌, ◌-◌, ◌^◌, ◌++◌, ◌∷◌, ◌⊎◌, ◌↔◌, [], ℕ, List, Bool, true, false, length, take, drop, IsOk, IsErrOf, IfOk, OnOk, OnErr, MatchResult, not, Result, Err, IfErr};
 ghost use Rattle.std.specs.Io.KnownBytes.{Consumes, IsAtEnd};
@@ -18,8 +18,8 @@ use std::marker::Model;
 use text_lines::laws::lines_end_in_lf_or_crlf;
 use text_lines::{Feed, LineReader, without_cr};
 
-/// A text that is being read by lines. It holds at most one piece of the text, and keeps no reference to the shelf,
-/// which each call takes. After a refusal it is closed.
+/// This text is being read by lines. It holds at most one piece of the text, and keeps no reference to the shelf, which
+/// each call takes. After a refusal it is closed.
 #[derive(Drop)]
 pub struct LineText {
     piece: Vec<u8>,
@@ -78,15 +78,15 @@ impl LineText {
         })
     }
 
-    /// Whether no call was refused.
+    /// Returns whether no call was refused.
     pub fn is_open(&self) -> bool
         ensures { result ≡ not self.now.closed }
     {
         !self.closed
     }
 
-    /// Puts the next line, without its ending, in place of what `line` has. False at the end of the text, and then the
-    /// line is empty.
+    /// Puts the next line, without its ending, in place of what `line` has. At the end of the text it answers false,
+    /// and then the line is empty.
     pub fn next_line<H: Shelf>(
         &mut self,
         shelf: &mut H,
@@ -140,7 +140,7 @@ impl LineText {
 }
 
 impl LineText {
-    // Passes on a line, and behind it each line that lies whole in what is held, with no copy.
+    // Passes on a line, and after it each line that lies whole in what is held, with no copy.
     pub(crate) fn pass_on<R: LineReader>(
         &mut self,
         line: &[u8],
@@ -151,7 +151,8 @@ impl LineText {
         ensures fewer { length self.new.held ≤ length self.old.held }
         ensures none { OnOk result (HasNo 10 self.new.held) }
 
-        // Whatever stands behind what is held: an answer that is right for the lines still to come was right before.
+        // Whatever follows the bytes that are held, an answer that is right for the lines still to come was right
+        // before.
         ensures ok { OnOk result ((behind : List ℕ) (answer : Result R.Made R.Fault) →
             IsRightFor R.answers feed.new.reader feed.new.next feed.new.blanks
             (lines_of (self.new.held ++ behind)) answer →
@@ -168,7 +169,7 @@ impl LineText {
         Ok(())
     }
 
-    // An open text has not passed its limit, and behind the end nothing is held.
+    // An open text has not passed its limit, and after the end nothing is held.
     fn known(&self)
         ensures within { self.now.closed ≡ false → self.now.taken ≤ self.now.limit }
         ensures over { self.now.ended ≡ true → self.now.held ≡ [] }
@@ -176,7 +177,8 @@ impl LineText {
         let _ = &self.piece;
     }
 
-    // The next piece of the text in place of what is held. False at the end of the text, where the shelf is asked once.
+    // Puts the next piece of the text in place of what is held. It answers false at the end of the text, for which the
+    // shelf is asked once.
     fn fill<H: Shelf>(&mut self, shelf: &mut H) -> Result<bool, ReadEnd>
         requires open { self.old.closed ≡ false }
         requires taken { self.old.taken ≡ H.taken shelf.old }
@@ -207,7 +209,8 @@ impl LineText {
         Ok(count > 0)
     }
 
-    // The bytes that are held go behind the line, as far as the next LF, which is dropped. False where there is none.
+    // Appends the bytes that are held to the line, up to the next LF, which is dropped. It answers false if there is no
+    // LF.
     fn give(&mut self, line: &mut Vec<u8>) -> Result<bool, AllocError>
         requires { self.old.ended ≡ false }
         ensures same { self.new ≡ record self.old { held = self.new.held } }
@@ -239,7 +242,7 @@ fn end_line(line: &mut Vec<u8>)
     line.truncate(length);
 }
 
-// Whether these are the bytes of a last line, which has no ending.
+// Returns whether these are the bytes of a last line, which has no ending.
 fn is_last(line: &[u8]) -> bool
     requires { HasNo 10 line.now }
     ensures last { result ≡ true → lines_of line.now ≡ line.now ∷ [] }

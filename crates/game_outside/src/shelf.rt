@@ -1,4 +1,4 @@
-//! A place with named texts, which are read from front to end.
+//! This module has a place with named texts, which are read from front to end.
 
 ghost use Rattle.std.specs.Prelude.{◌≡◌, ◌<◌, ℕ, Bool, true, List, length, OnOk, OnErr, IsOk, Option};
 ghost use Rattle.std.specs.Io.{ReadsAtMost};
@@ -7,27 +7,27 @@ ghost use Rattle.game_outside.specs.Outside.{Holding, HasCause, Holds, Begins, I
 
 use crate::Failed;
 
-/// A place with named texts. One text at a time is begun and read from front to end.
+/// A shelf is a place with named texts. One text at a time is begun and read from front to end.
 ///
-/// An object tells what it likes of the texts that it holds. It always tells how many bytes were taken, how often a
-/// call failed, and whether its calls for what is held never fail.
+/// An object tells as much as it likes of the texts that it holds. It always tells how many bytes were taken, how often
+/// a call failed, and whether its calls for what is held never fail.
 pub trait Shelf {
-    /// The bytes under each name, where they are told.
+    /// These bytes are held under each name, if they are told.
     ghost held: { Self → Option Holding };
 
-    /// The bytes still to come of the text that was begun, where they are told.
+    /// These bytes of the text that was begun are still to come, if they are told.
     ghost rest: { Self → Option (List ℕ) };
 
-    /// How many bytes `next` has given since the last `begin`, up to the greatest `u64`.
+    /// This counts the bytes that `next` has given since the last `begin`, up to the greatest `u64`.
     ghost taken: { Self → ℕ };
 
-    /// How often a call failed, a count that never falls. At the greatest `u64` it stays.
+    /// This counts the calls that failed, and never falls. It stops at the greatest `u64`.
     ghost faults: { Self → ℕ };
 
-    /// Its calls for what is held never fail.
+    /// If this is true, its calls for what is held never fail.
     ghost steady: { Self → Bool };
 
-    /// Begins the text under this name. A name that is not held fails; after a failure no text is begun.
+    /// Begins the text under this name. It fails at a name that is not held; after a failure no text is begun.
     fn begin(&mut self, name: &str) -> Result<(), Failed>
         ensures text { OnOk result (Begins (held self.old) name.now (rest self.new)) }
         ensures taken { taken self.new ≡ 0 }
@@ -38,8 +38,8 @@ pub trait Shelf {
         ensures steadily { steady self.old ≡ true → Holds (held self.old) name.now
             → IsOk result × (faults self.new ≡ faults self.old) };
 
-    /// Puts the next bytes of the text into the piece, and answers how many. Zero says that the text is at its end, or
-    /// that none was begun.
+    /// Puts the next bytes of the text into the piece, and answers their number. Zero says that the text is at its end,
+    /// or that none was begun.
     fn next(&mut self, piece: &mut [u8]) -> Result<usize, Failed>
         requires { 0 < length piece.old }
         ensures bound { ReadsAtMost result piece.new }
@@ -51,10 +51,10 @@ pub trait Shelf {
         ensures steadily { steady self.old ≡ true → IsOk result × (faults self.new ≡ faults self.old) };
 }
 
-/// Why a text was not read whole.
+/// This says why a text was not read whole.
 #[derive(Clone, Copy, Debug, PartialEq, Eq, Drop)]
 pub enum ReadEnd {
-    /// Memory was wanting.
+    /// Memory ran out.
     OutOfMemory,
     /// A call of the shelf failed.
     ReadFault,
@@ -62,5 +62,5 @@ pub enum ReadEnd {
     TooLong,
 }
 
-/// The most bytes that `read_all` and a `LineText` take in one call.
+/// `read_all` and a `LineText` take at most this many bytes in one call.
 pub const PIECE: usize = 4096;

@@ -1,4 +1,4 @@
-//! A text that is read whole.
+//! This module reads a text whole.
 
 ghost use Rattle.std.specs.Prelude.{◌≤◌, IfOk, IsErrOf, length};
 ghost use Rattle.game_outside.specs.Outside.{IsHeldAs, IsHeldLonger};
@@ -7,7 +7,7 @@ ghost use Rattle.game_outside.specs.Reading.{LeavesNamed};
 use crate::shelf::{PIECE, ReadEnd, Shelf};
 use std::alloc::Global;
 
-/// All bytes that are held under the name, at most `limit` of them.
+/// Returns all bytes that are held under the name, at most `limit` of them.
 #[tactic(auto, using(crate::proofs::Streams::longer))]
 pub fn read_all<H: Shelf>(
     alloc: Global,
@@ -15,12 +15,12 @@ pub fn read_all<H: Shelf>(
     name: &str,
     limit: u64,
 ) -> Result<Vec<u8>, ReadEnd>
-    // The whole text.
+    // The answer is the whole text, within the limit.
     ensures bytes { IfOk result (λ v. IsHeldAs (H.held shelf.old) name.now v.items) }
     ensures within { IfOk result (λ v. length v.items ≤ limit) }
 
-    // It fails only where the shelf fails or the text is longer, takes little more than the limit, and changes nothing
-    // of what the shelf holds.
+    // It answers that the text is too long only if more bytes than the limit are held. It answers a fault of reading
+    // only if the shelf fails, takes at most a piece more than the limit, and changes nothing of what the shelf holds.
     ensures longer { IsErrOf result ReadEnd.TooLong → IsHeldLonger (H.held shelf.old) name.now limit }
     ensures shelf { LeavesNamed H.Shelf name.now limit shelf.old shelf.new result }
 {

@@ -1,4 +1,4 @@
-//! Lines that are handed on where they lie.
+//! This module passes on lines without a copy.
 
 ghost use Rattle.std.specs.Prelude.{◌<◌, ◌≤◌, ◌+◌, ◌^◌, ◌++◌, ◌∷◌, ℕ, List, Result, Err, length, IfOk, IfErr};
 ghost use Rattle.text_lines.specs.Blank.{IsRightFor};
@@ -7,9 +7,9 @@ ghost use Rattle.text_lines.specs.Laws.{HasNo, IsEndOf};
 
 use text_lines::{Feed, LineReader, ended_line};
 
-// Passes on a line, and behind it each line that ends in an LF of these bytes, and gives what stands behind the last
-// LF, the front of a line that may go on. `Feed::line` is called in one place, so that the compiler may put the reader
-// into this loop.
+// Passes on a line, and after it each line that ends in an LF of these bytes. It returns what follows the last LF, the
+// front of a line that may go on. `Feed::line` is called in one place, so that the compiler may put the reader into
+// this loop.
 pub(crate) fn feed_lines<'b, R: LineReader>(
     line: &[u8],
     bytes: &'b [u8],
@@ -19,7 +19,7 @@ pub(crate) fn feed_lines<'b, R: LineReader>(
     ensures rest { IfOk result (λ rest. IsEndOf rest.now bytes.now) }
     ensures none { IfOk result (λ rest. HasNo 10 rest.now) }
 
-    // Whatever stands behind these bytes: an answer that is right for the lines still to come was right before.
+    // Whatever follows these bytes, an answer that is right for the lines still to come was right before.
     ensures ok { IfOk result (λ rest. (behind : List ℕ) (answer : Result R.Made R.Fault) →
         IsRightFor R.answers feed.new.reader feed.new.next feed.new.blanks
         (lines_of (rest.now ++ behind)) answer →
@@ -29,7 +29,7 @@ pub(crate) fn feed_lines<'b, R: LineReader>(
         IsRightFor R.answers feed.old.reader feed.old.next feed.old.blanks
         (line.now ∷ lines_of (bytes.now ++ behind)) (Err fault)) }
 
-    // Each of the lines behind the first has at least one byte, its LF.
+    // Each of the lines after the first has at least one byte, its LF.
     ensures lines { IfOk result (λ rest. feed.new.next + feed.new.blanks + length rest.now
         ≤ feed.old.next + feed.old.blanks + 1 + length bytes.now) }
 {

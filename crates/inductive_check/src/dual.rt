@@ -1,4 +1,4 @@
-//! The question of the other side.
+//! This module makes the question of the other side.
 
 ghost use Rattle.std.specs.Prelude.{◌≡◌, IfOk};
 ghost use Rattle.game_model.specs.Dual.{swapped, IsZeroSet};
@@ -7,10 +7,10 @@ use game_model::{Marks, Question};
 use game_outside::OutOfMemory;
 use std::alloc::Global;
 
-/// The question of the other side, over the same game: the sides are exchanged, the states of the zero set
-/// are its goals, and the goals its dead states. Its values and those of staying out of the zero set add up
-/// to 1 (`game_model::laws::swap_law`), so lower bounds of it give upper bounds of the question. The marks are
-/// the question's zero set. The only error is want of memory.
+/// Makes the question of the other side, over the same game: the sides are exchanged, the states of the zero set are
+/// its goals, and the goals are its dead states. Its values and those of staying out of the zero set add up to 1
+/// (`game_model::laws::swap_law`), so its lower bounds give upper bounds of the question. The marks must be the
+/// question's zero set. The only error is that memory ran out.
 pub fn swap<'g>(
     alloc: Global,
     question: &Question<'g>,

@@ -1,4 +1,4 @@
-//! Which choices of a state are held to its entry.
+//! This module says which choices of a state are held to its entry.
 
 ghost use Rattle.std.specs.Prelude.{◌≡◌, ◌<◌, ◌≤◌, ◌↔◌, length, slice_index, All, IsTrue, MatchOption};
 ghost use Rattle.game_model.specs.Game.{choices_of};
@@ -9,7 +9,7 @@ ghost use Rattle.inductive_check.specs.Held.{IsHeldAt, AllHeld, NoneHeld, IsFirs
 use fixed_bellman::holds;
 use game_model::Question;
 
-/// Whether a choice is held to the entry of its state.
+/// Returns whether a choice is held to the entry of its state.
 pub fn is_held(question: &Question, upper: &[u64], state: u32, choice: u32) -> bool
     requires length { length upper.now ≡ states question.now }
     requires units { All (λ v. v ≤ unit) upper.now }
@@ -21,7 +21,7 @@ pub fn is_held(question: &Question, upper: &[u64], state: u32, choice: u32) -> b
     holds(&question.row(state), choice, upper, upper[state as usize])
 }
 
-/// The first choice of a state that is held.
+/// Returns the first choice of a state that is held.
 pub fn first_held(question: &Question, upper: &[u64], state: u32) -> Option<u32>
     requires length { length upper.now ≡ states question.now }
     requires units { All (λ v. v ≤ unit) upper.now }
@@ -37,7 +37,7 @@ pub fn first_held(question: &Question, upper: &[u64], state: u32) -> Option<u32>
     None
 }
 
-/// The first choice of a state that is not held.
+/// Returns the first choice of a state that is not held.
 pub fn first_unheld(question: &Question, upper: &[u64], state: u32) -> Option<u32>
     requires length { length upper.now ≡ states question.now }
     requires units { All (λ v. v ≤ unit) upper.now }

@@ -1,4 +1,5 @@
-//! Laws of upper tables and of replies to them. No function here does anything: its contract is the law.
+//! This module has the laws of upper tables and of replies to them. Each function does nothing: its contract is the
+//! law.
 
 ghost use Rattle.std.specs.Prelude.{◌≡◌, ℕ, List, min, slice_index};
 ghost use Rattle.game_model.specs.Query.{Query, IsQuery};
@@ -15,7 +16,7 @@ pub fn upper_faults_are_one()
         IsUpperFault q upper s cause → IsUpperFault q upper t other → (s ≡ t) × (cause ≡ other) }
 {}
 
-/// The lesser of two inductive tables, state by state, is inductive.
+/// Let each entry of a table be the lesser of the entries of two inductive tables. Then the table is inductive.
 pub fn the_least_of_two_is_inductive()
     ensures { (q : Query) (table other : ℕ → ℕ) → IsQuery q → IsInductive q table → IsInductive q other →
         IsInductive q (λ s. min (table s) (other s)) }

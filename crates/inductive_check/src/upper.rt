@@ -1,4 +1,4 @@
-//! Whether an upper table is inductive.
+//! This module checks that an upper table is inductive.
 
 ghost use Rattle.std.specs.Prelude.{◌≡◌, ◌<◌, ◌≤◌, ◌↔◌, length, slice_index, All, IsOk, IfErr};
 ghost use Rattle.game_model.specs.Limits.{unit, most_states};
@@ -12,16 +12,16 @@ use crate::held::{first_held, first_unheld};
 use game_laws::tables::inductive_is_high;
 use game_model::{Question, Side, UNIT};
 
-/// Why an upper table, or a reply to it, is refused at a state.
+/// This is why an upper table, or a reply to it, is refused at a state.
 #[derive(Clone, Copy, Debug, PartialEq, Eq)]
 pub enum UpperCause {
     /// The entry is above the unit.
     OverOne,
     /// The state is a goal, and its entry is not the unit.
     Goal,
-    /// The maximiser has a choice whose weighted average is above the entry; this is the first.
+    /// The maximiser has a choice whose weighted average is above the entry, and this is the first such choice.
     Above {
-        /// The choice.
+        /// This is the choice.
         choice: u32,
     },
     /// Each choice of the minimiser has a weighted average above the entry.
@@ -30,18 +30,18 @@ pub enum UpperCause {
     Reply,
 }
 
-/// The first fault of an upper table, or of replies to it.
+/// This is the first fault of an upper table, or of replies to it.
 #[derive(Clone, Copy, Debug, PartialEq, Eq)]
 pub struct UpperFault {
-    /// The state.
+    /// This is the state.
     pub state: u32,
-    /// What is wrong there.
+    /// This is what is wrong there.
     pub cause: UpperCause,
 }
 
-/// Checks that a table of units, by state, is inductive: no entry is above the unit, and no state's up value
-/// is above its entry. Then it is above every k-step value. An entry above the unit, at any state, comes
-/// before every other fault. It takes no memory.
+/// Checks that a table of units, by state, is inductive: no entry is above the unit, and no state's up value is above
+/// its entry. Then no k-step value is above the table. An entry above the unit, at any state, comes before every other
+/// fault. It takes no memory.
 pub fn check_upper(question: &Question, upper: &[u64]) -> Result<(), UpperFault>
     requires length { length upper.now ≡ states question.now }
     ensures ok { IsOk result ↔ (All (λ v. v ≤ unit) upper.now × IsInductive question.now (slice_index upper.now)) }

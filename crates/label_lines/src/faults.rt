@@ -1,17 +1,17 @@
-//! Why a text is refused.
+//! This module says why a text is refused.
 
-/// Why a label file or an owner file is refused.
+/// A cause says why a label file or an owner file is refused.
 #[derive(Clone, Copy, Debug, PartialEq, Eq)]
 pub enum LabCause {
-    /// Memory was wanting.
+    /// Memory ran out.
     OutOfMemory,
     /// The text is empty, or its first line is blank.
     NoHeader,
     /// An item of the first line is not an index, `=` and a quoted name.
     BadHeader,
-    /// A name stands twice in the header.
+    /// A name occurs twice in the header.
     DoubleName,
-    /// An index stands twice in the header.
+    /// An index occurs twice in the header.
     DoubleIndex,
     /// A later line is not a state, a colon and whole numbers.
     BadField,
@@ -23,17 +23,18 @@ pub enum LabCause {
     OverLimit,
     /// A state gets a second, different player.
     TwoOwners {
-        /// The state.
+        /// This is the state.
         state: u32,
     },
 }
 
-/// A fault of a label file or an owner file, with its line. Lines count from 1; line 0 says that memory was wanting.
+/// A fault of a label file or an owner file has a line and a cause. Lines count from 1. Line 0 says that memory ran
+/// out.
 #[derive(Clone, Copy, Debug, PartialEq, Eq)]
 pub struct LabFault {
-    /// The number of the line.
+    /// This is the number of the line.
     pub line: u32,
-    /// What is wrong there.
+    /// This is what is wrong there.
     pub cause: LabCause,
 }
 
@@ -41,21 +42,21 @@ impl LabFault {
     ghost use Rattle.std.specs.Prelude.{◌≡◌};
     ghost use Rattle.label_lines.specs.Texts.{fault_at, GivesFault};
 
-    /// The fault of a line with this cause.
+    /// Returns the fault of a line with this cause.
     pub fn at(line: u32, cause: LabCause) -> LabFault
         ensures { result ≡ fault_at line cause }
     {
         LabFault { line, cause }
     }
 
-    /// The fault that memory was wanting.
+    /// Returns the fault that memory ran out.
     pub fn out_of_memory() -> LabFault
         ensures { result ≡ fault_at 0 LabCause.OutOfMemory }
     {
         LabFault::at(0, LabCause::OutOfMemory)
     }
 
-    /// The fault of a header with this cause.
+    /// Returns the fault of a header with this cause.
     pub(crate) fn of_header(cause: LabCause) -> LabFault
         ensures { GivesFault cause result }
     {

@@ -1,4 +1,4 @@
-//! Readers of texts whose first line is a header.
+//! This module reads texts whose first line is a header.
 
 ghost use Rattle.std.specs.Prelude.{◌≡◌, ◌<◌, ◌+◌, ◌∷◌, [], ℕ, List, Result, Err, MatchOption, MatchResult, IfOk, length};
 ghost use Rattle.label_lines.specs.declared.kind.FileKind.{FileKind};
@@ -14,19 +14,19 @@ use crate::kind::FileKind;
 use std::alloc::{AllocError, Global};
 use text_lines::LineReader;
 
-/// A reader of the lines behind a header.
+/// A type of this trait reads the lines behind a header.
 pub trait BehindHeader: LineReader<Fault = LabFault> {
-    /// The kind of its files.
+    /// This is the kind of its files.
     ghost kind: { FileKind };
 
-    /// What a header's items and the lines behind it come to, of so many states.
+    /// This is what a header's items and the lines behind it make, for a number of states.
     ghost make: { ℕ → List Item → List StateLine → Self.Made };
 
-    /// The kind of its files.
+    /// Returns the kind of its files.
     fn kind() -> FileKind
         ensures { result ≡ kind };
 
-    /// A reader that has taken the header alone.
+    /// Makes a reader that has taken only the header.
     fn new(alloc: Global, header: Header, states: u32) -> Result<Self, AllocError>
         requires { 0 < length header }
         ensures { IfOk result (λ reader. (lines : List (List ℕ)) (answer : Result Self.Made LabFault) →
@@ -35,7 +35,7 @@ pub trait BehindHeader: LineReader<Fault = LabFault> {
             (made_of (make states header) (lines_from kind states header [] 2 lines))) };
 }
 
-/// A reader of a whole text: of its header, and then of the lines behind it.
+/// Reads a whole text: its header, and then the lines behind it.
 #[derive(Drop)]
 pub struct HeadedLines<B: BehindHeader> {
     alloc: Global,
@@ -44,7 +44,7 @@ pub struct HeadedLines<B: BehindHeader> {
 }
 
 impl<B: BehindHeader> HeadedLines<B> {
-    /// A reader that has taken nothing yet.
+    /// Makes a reader that has taken nothing yet.
     pub fn new(alloc: Global, states: u32) -> HeadedLines<B>
         ensures states { result.states ≡ states }
         ensures behind { result.behind ≡ None }

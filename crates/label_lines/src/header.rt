@@ -1,4 +1,4 @@
-//! The header: which index stands for which name.
+//! A header says which index means which name.
 
 ghost use Rattle.std.specs.Prelude.{◌≡◌, ◌<◌, ◌≤◌, ◌+◌, ◌++◌, ◌∷◌, [], ℕ, Bool, false, List, Some, None, IfSome, MatchResult, length};
 ghost use Rattle.text_lines.specs.Text.{fields_of};
@@ -16,7 +16,7 @@ use std::collections::HashMap;
 use std::marker::Model;
 use text_lines::{first_field, whole};
 
-/// The items of a header. Contracts see them as a list of items.
+/// A header has items, which contracts see as a list.
 #[derive(Drop)]
 pub struct Header {
     names: IndexMap<Vec<u8>, u64>,
@@ -38,7 +38,7 @@ impl Model for Header {
 impl Header {
     ghost use Rattle.label_lines.specs.Placed.{AreSingle, items_of};
 
-    /// No item.
+    /// Makes a header without an item.
     pub(crate) fn new(alloc: Global) -> Header
         ensures { result ≡ [] }
     {
@@ -48,7 +48,7 @@ impl Header {
         }
     }
 
-    /// The number of items.
+    /// Returns the number of items.
     pub fn len(&self) -> usize
         ensures len { result ≡ length self.now }
         ensures single { AreSingle self.now }
@@ -57,7 +57,7 @@ impl Header {
         self.names.len()
     }
 
-    /// The names with their indices.
+    /// Returns the names with their indices.
     pub fn into_names(self) -> IndexMap<Vec<u8>, u64>
         ensures { items_of result.entries ≡ self }
     {
@@ -65,7 +65,7 @@ impl Header {
         names
     }
 
-    /// The place of the item whose index a field spells.
+    /// Returns the place of the item whose index a field spells.
     pub fn place(&self, field: &[u8]) -> Option<u32>
         ensures value { result ≡ place_in self.now field.now }
         ensures within { IfSome result (λ place. place < length self.now) }
@@ -76,7 +76,7 @@ impl Header {
         }
     }
 
-    // Whether an item with this index would pass a limit.
+    // Returns whether an item with this index would pass a limit.
     fn is_over(&self, kind: FileKind, index: u64) -> bool
         ensures { result ≡ passes_limit kind self.now index }
     {
@@ -95,7 +95,7 @@ impl Header {
         self.names.contains_key(name)
     }
 
-    // One item more, which is new.
+    // Adds one item, which is new.
     fn with(self, alloc: Global, index: u64, name: &[u8]) -> Result<Header, LabCause>
         requires few { length self < most_labels }
         requires small { index ≤ greatest_index }
@@ -121,7 +121,7 @@ impl Header {
         Ok(Header { names, places })
     }
 
-    /// One item more, which a field spells, or its first fault.
+    /// Adds the item that a field spells, or gives its first fault.
     pub(crate) fn add(self, alloc: Global, kind: FileKind, field: &[u8]) -> Result<Header, LabCause>
         ensures { AnswersOrWants IsOutOfMemoryCause (λ items. items) result
             (with_item kind self (item_of kind field.now)) }
@@ -142,7 +142,7 @@ impl Header {
     }
 }
 
-/// The items of a header line.
+/// Reads the items of a header line, or gives its first fault.
 pub fn read_header(alloc: Global, kind: FileKind, line: &[u8]) -> Result<Header, LabCause>
     ensures { AnswersOrWants IsOutOfMemoryCause (λ items. items) result (header_of kind (fields_of line.now)) }
 {

@@ -1,4 +1,4 @@
-//! The items of a header: `index="name"`.
+//! An item of a header is `index="name"`.
 
 ghost use Rattle.std.specs.Prelude.{◌≡◌, ◌<◌, ◌≤◌, ◌-◌, Some, None, MatchOption, option_map, length, take, drop};
 ghost use Rattle.std.specs.List.{list_all};
@@ -8,7 +8,7 @@ ghost use Rattle.label_lines.specs.Header.{Item, quoted, is_name, has_name_bytes
 use crate::kind::{FileKind, LONGEST_NAME};
 use text_lines::{split_at_first, whole};
 
-// What stands between two quotes.
+// Returns what is between two quotes.
 fn unquoted(bytes: &[u8]) -> Option<&[u8]>
     ensures { MatchOption result (quoted bytes.now ≡ None) (λ r. quoted bytes.now ≡ Some r.now) }
 {
@@ -58,7 +58,7 @@ fn fits_name(kind: FileKind, name: &[u8]) -> bool
     !name.is_empty() && name.len() <= LONGEST_NAME && name_bytes(kind, name)
 }
 
-/// The index and the name of an item.
+/// Reads the index and the name of an item.
 pub fn read_item(kind: FileKind, field: &[u8]) -> Option<(u64, &[u8])>
     ensures { MatchOption result (item_of kind field.now ≡ None)
         (λ r. option_map saturated_item (item_of kind field.now) ≡ Some (record { index = r.0; name = r.1.now })) }

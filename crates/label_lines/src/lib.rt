@@ -1,11 +1,12 @@
-//! The lines of label files and owner files, and the labels and owners that a text of them denotes.
+//! This crate reads the lines of label files and owner files, and defines the labels and owners that a text of such
+//! lines denotes.
 //!
 //! Both formats are one: a header of items `index="name"`, and lines `state: index index ..` in any order. `Header` has
-//! the items, `read_state` reads the front of a line, and `HeadedLines` reads a whole text, by a reader of what stands
-//! behind the header. `DenotesLabels` and `DenotesOwners` of `specs/Denotes.antt` say what a text denotes, and
-//! `labels_of` and `owners_of` the same by cases, with the first fault: `laws` says that they are one.
+//! the items, `read_state` reads the front of a line, and `HeadedLines` reads a whole text, with a reader of the lines
+//! behind the header. `DenotesLabels` and `DenotesOwners` of `specs/Denotes.antt` say what a text denotes. `labels_of`
+//! and `owners_of` give the same by cases, with the first fault: `laws` says that both agree.
 //!
-//! Nothing is said of what PRISM reads or refuses beyond these rules.
+//! The crate says nothing of what PRISM reads or refuses beyond these rules.
 #![tactic(auto)]
 
 mod faults;

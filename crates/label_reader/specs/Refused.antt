@@ -1,4 +1,4 @@
--- Refusals of texts, and want of memory, which is none.
+-- This module defines how a refusal because memory ran out becomes an end of its own.
 use Rattle.std.specs.Prelude.{◌≡◌, Bool, true, false, Result, Ok, Err}
 use Rattle.game_outside.specs.declared.file.FileEnd.{FileEnd}
 use Rattle.game_outside.specs.declared.file.FileEnd.TheVariants as file
@@ -6,12 +6,12 @@ use Rattle.label_lines.specs.declared.faults.LabFault.{LabFault}
 use Rattle.label_lines.specs.declared.faults.LabCause.{LabCause}
 use Rattle.label_lines.specs.declared.faults.LabCause.TheVariants.{OutOfMemory}
 
--- memory was wanting
+-- Memory ran out.
 abbrev pub is_out_of_memory : LabCause → Bool
 is_out_of_memory OutOfMemory = true
 is_out_of_memory cause = false
 
--- the same answer, but want of memory in place of a refusal for it
+-- The answer is the same, but a refusal because memory ran out becomes `OutOfMemory`.
 abbrev pub IsWithoutWant : {X : Type 0} → Result X (FileEnd LabFault) → Result X (FileEnd LabFault) → Type 0
 IsWithoutWant (Err (file.Refused fault)) after = (is_out_of_memory fault.cause ≡ true → after ≡ Err file.OutOfMemory)
     × (is_out_of_memory fault.cause ≡ false → after ≡ Err (file.Refused fault))

@@ -1,4 +1,4 @@
--- What the crate's own loops and private functions speak of: no clause of a public function unfolds to it.
+-- The crate's own loops and private functions use these definitions: no clause of a public function unfolds to them.
 pub mod Marked
 pub mod Owned
 pub mod Behind

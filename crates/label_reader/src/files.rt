@@ -1,4 +1,4 @@
-//! Label files and owner files whose text comes in pieces.
+//! This module reads label files and owner files whose text comes in pieces.
 
 ghost use Rattle.std.specs.Prelude.{◌≡◌, ◌≤◌, IfOk, length};
 ghost use Rattle.text_lines.specs.Limits.{most_bytes};
@@ -14,8 +14,8 @@ use game_outside::{FileEnd, Shelf, read_lines_from};
 use label_lines::{BehindHeader, HeadedLines, LabCause, LabFault};
 use std::alloc::Global;
 
-/// The labels of so many states that the text under a name denotes, or its first fault, in whatever pieces the text
-/// comes.
+/// Reads the labels of `states` states that the text under a name denotes, or its first fault, in whatever pieces the
+/// text comes.
 pub fn read_labels_from<H: Shelf>(
     alloc: Global,
     shelf: &mut H,
@@ -30,15 +30,15 @@ pub fn read_labels_from<H: Shelf>(
     ensures caused { RefusesCaused (λ fault. is_out_of_memory fault.cause) result }
     ensures sizes { IfOk result (λ labels. labels.states ≡ states) }
 
-    // It fails only where the shelf fails, takes little more than the limit, and changes nothing of what the shelf
-    // holds.
+    // A read fault comes only from the shelf. The call takes little more than the limit, and changes nothing of what
+    // the shelf holds.
     ensures shelf { LeavesShelf H.Shelf name.now limit shelf.old shelf.new result }
 {
     read_from::<H, LabelSets>(alloc, shelf, name, limit, states)
 }
 
-/// The owners of so many states that the text under a name denotes, or its first fault, in whatever pieces the text
-/// comes.
+/// Reads the owners of `states` states that the text under a name denotes, or its first fault, in whatever pieces the
+/// text comes.
 pub fn read_owners_from<H: Shelf>(
     alloc: Global,
     shelf: &mut H,
@@ -53,14 +53,14 @@ pub fn read_owners_from<H: Shelf>(
     ensures caused { RefusesCaused (λ fault. is_out_of_memory fault.cause) result }
     ensures sizes { IfOk result (λ owners. length owners.owners ≡ states) }
 
-    // It fails only where the shelf fails, takes little more than the limit, and changes nothing of what the shelf
-    // holds.
+    // A read fault comes only from the shelf. The call takes little more than the limit, and changes nothing of what
+    // the shelf holds.
     ensures shelf { LeavesShelf H.Shelf name.now limit shelf.old shelf.new result }
 {
     read_from::<H, OwnerTable>(alloc, shelf, name, limit, states)
 }
 
-// What a header and the lines behind it come to, in the text under a name.
+// Reads what a header and the lines behind it make, in the text under a name.
 fn read_from<H: Shelf, B: BehindHeader>(
     alloc: Global,
     shelf: &mut H,
@@ -78,7 +78,7 @@ fn read_from<H: Shelf, B: BehindHeader>(
     without_want(read_lines_from(alloc, shelf, name, limit, reader))
 }
 
-// Want of memory refuses no text.
+// That memory ran out is no refusal of the text, but an end of its own.
 fn without_want<T>(read: Result<T, FileEnd<LabFault>>) -> Result<T, FileEnd<LabFault>>
     ensures { IsWithoutWant read result }
 {

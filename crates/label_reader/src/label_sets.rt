@@ -1,4 +1,4 @@
-//! The reader of the lines of a label file behind its header.
+//! This module reads the lines of a label file behind its header.
 
 ghost use Rattle.std.specs.Prelude.{◌≡◌, ◌<◌, false, Some, length, replicate, slice_index_or, All, IfOk, OnOk, ℕ};
 ghost use Rattle.text_lines.specs.Text.{fields_of};
@@ -17,7 +17,7 @@ use label_lines::{
 use std::alloc::{AllocError, Global};
 use text_lines::{LineReader, first_field};
 
-/// A set of states for each label of a header, with the states that the lines so far say.
+/// Holds a set of states for each label of a header: those of which the lines so far say its index.
 #[derive(Drop)]
 pub struct LabelSets {
     states: u32,
@@ -76,7 +76,7 @@ impl LineReader for LabelSets {
     }
 }
 
-// So many empty sets of states.
+// Makes `count` empty sets of states.
 fn empty_sets(alloc: Global, count: usize, states: u32) -> Result<Vec<StateSet>, AllocError>
     ensures { IfOk result (λ sets. sets.items ≡ replicate count (replicate states false)) }
 {

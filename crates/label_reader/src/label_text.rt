@@ -1,4 +1,4 @@
-//! The reader of label files.
+//! This module reads label files.
 
 ghost use Rattle.std.specs.Prelude.{◌≡◌, ◌≤◌, IfOk, length};
 ghost use Rattle.game_outside.specs.Answers.{AnswersOrWants};
@@ -10,11 +10,11 @@ use label_lines::{HeadedLines, LabFault};
 use std::alloc::Global;
 use text_lines::{MOST_BYTES, read_lines};
 
-/// The reader of the lines of a label file.
+/// Reads the lines of a label file.
 pub(crate) type LabelLines = HeadedLines<LabelSets>;
 
-/// The labels of so many states that a text denotes, or its first fault. What is said of a text is what it denotes:
-/// `label_lines::laws::labels_are_those_that_a_text_denotes`.
+/// Reads the labels of `states` states that a text denotes, or its first fault. What is said of a text is what it
+/// denotes: `label_lines::laws::labels_are_those_that_a_text_denotes`.
 pub fn read_labels(alloc: Global, bytes: &[u8], states: u32) -> Result<Labels, LabFault>
     requires { length bytes.now ≤ MOST_BYTES }
     ensures exact { AnswersOrWants IsOutOfMemory (λ x. x) result (labels_of bytes.now states) }

@@ -1,4 +1,4 @@
-//! Labels: names, and the states that have each.
+//! Labels are names, each with the states that have it.
 
 ghost use Rattle.std.specs.Prelude.{◌≡◌, ◌<◌, ◌≤◌, ◌^◌, IfOk, length};
 ghost use Rattle.label_lines.specs.Labels.{marked_from};
@@ -9,8 +9,8 @@ use indexmap::IndexMap;
 use std::alloc::Global;
 use std::marker::Model;
 
-/// The labels of a model in the order of their header, and the states at which each holds. Contracts see them as a
-/// `Labelling`.
+/// Holds the labels of a model in the order of their header, and the states at which each holds. Contracts see them as
+/// a `Labelling`.
 #[derive(Drop)]
 pub struct Labels {
     states: u32,
@@ -35,7 +35,7 @@ impl Labels {
     ghost use Rattle.label_reader.specs.Named.{AreNamed};
     ghost use Rattle.label_lines.specs.Labels.{is_known, marks_of, states_with, IsLabelling};
 
-    /// The labels with these names, and the states of each.
+    /// Makes the labels with these names, and the states of each.
     pub(crate) fn new(states: u32, names: IndexMap<Vec<u8>, u64>, sets: Vec<StateSet>) -> Labels
         requires { AreNamed states names.entries sets.items }
         ensures { result ≡ record { states = states; labels = labels_named names.entries sets.items } }
@@ -47,14 +47,14 @@ impl Labels {
         }
     }
 
-    /// What every labelling keeps: each label has a mark for each state.
+    /// Shows what every labelling keeps: each label has a mark for each state.
     pub fn known(&self)
         ensures { IsLabelling self.now }
     {
         let _ = &self.sets;
     }
 
-    /// The marks of the label with this name; none where there is no such label.
+    /// Returns the marks of the label with this name, or none if there is no such label.
     pub fn marks(&self, name: &[u8]) -> &[bool]
         ensures marks { result.now ≡ marks_of self.now.labels name.now }
         ensures short { length result.now < 2 ^ 32 }
@@ -65,14 +65,14 @@ impl Labels {
         }
     }
 
-    /// Whether there is a label with this name.
+    /// Returns whether there is a label with this name.
     pub fn knows(&self, name: &[u8]) -> bool
         ensures { result ≡ is_known self.now name.now }
     {
         self.names.contains_key(name)
     }
 
-    /// The states at which the label with this name holds, rising; none where there is no such label.
+    /// Returns the states at which the label with this name holds, in rising order, or none if there is no such label.
     pub fn states_of(&self, alloc: Global, name: &[u8]) -> Result<Vec<u32>, OutOfMemory>
         ensures { IfOk result (λ v. v.items ≡ states_with self.now name.now) }
     {
@@ -80,7 +80,7 @@ impl Labels {
     }
 }
 
-// The states that are marked, rising.
+// Returns the states that are marked, in rising order.
 fn marked(alloc: Global, marks: &[bool]) -> Result<Vec<u32>, OutOfMemory>
     requires { length marks.now < 2 ^ 32 }
     ensures { IfOk result (λ v. v.items ≡ marked_from 0 marks.now) }

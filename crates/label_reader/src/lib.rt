@@ -1,10 +1,9 @@
-//! Label files and owner files of explicit models.
+//! This crate reads label files and owner files of explicit models.
 //!
 //! `read_labels` gives the labels of a model's states and `read_owners` the players that own them, each from the bytes
-//! of its file and the number of states; or the first fault of the text with its line. `label_lines` says how a line is
-//! spelled. Of a text that denotes labels or owners nothing but these is answered, unless memory is wanting.
-//! `read_labels_from` and `read_owners_from` read a file on a shelf, a piece at a time, and give the same answer in
-//! whatever pieces it comes.
+//! of its file and the number of states, or the first fault of the text with its line. `label_lines` says how a line is
+//! spelled. If a text denotes labels or owners, the answer is these, unless memory runs out. `read_labels_from` and
+//! `read_owners_from` read a file on a shelf, a piece at a time, and give the same answer in whatever pieces it comes.
 //!
 //! ```text
 //! let labels = read_labels(alloc, &bytes, game.states())?;

@@ -1,4 +1,4 @@
-//! The reader of the lines of an owner file behind its header.
+//! This module reads the lines of an owner file behind its header.
 
 ghost use Rattle.std.specs.Prelude.{◌≡◌, ◌<◌, Some, None, length, slice_index_or, slice_set, unwrap_or, All};
 ghost use Rattle.text_lines.specs.Text.{fields_of};
@@ -14,7 +14,7 @@ use label_lines::{
 use std::alloc::{AllocError, Global};
 use text_lines::{LineReader, first_field};
 
-/// The player who owns each state, as the lines so far say.
+/// Holds the player who owns each state, as the lines so far say.
 #[derive(Drop)]
 pub struct OwnerTable {
     states: u32,
@@ -75,8 +75,8 @@ impl LineReader for OwnerTable {
     }
 }
 
-// The owner of a state behind a line with these indices: the one who is named already, or else the first whom the line
-// names. Or the first fault of the indices; that they name another owner, too, comes last.
+// Returns the owner of a state behind a line with these indices: the one that is named already, or else the first that
+// the line names. Otherwise it returns the first fault of the indices. That they name another owner comes last.
 fn owner_behind(
     named: Option<u32>,
     header: &Header,

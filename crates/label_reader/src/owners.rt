@@ -1,4 +1,4 @@
-//! Owners: which player chooses at each state.
+//! Owners are the players who choose at each state.
 
 ghost use Rattle.std.specs.Prelude.{◌≡◌, ◌<◌, ◌≤◌, ◌∷◌, [], None, length, replicate, codes, IfOk};
 
@@ -7,8 +7,8 @@ use indexmap::IndexMap;
 use std::alloc::{AllocError, Global};
 use std::marker::Model;
 
-/// The players of a game in the order of their header, and the player who owns each state. Contracts see them as an
-/// `Ownership`.
+/// Holds the players of a game in the order of their header, and the player who owns each state. Contracts see them as
+/// an `Ownership`.
 #[derive(Drop)]
 pub struct Owners {
     names: IndexMap<Vec<u8>, u64>,
@@ -32,7 +32,7 @@ impl Owners {
     ghost use Rattle.label_reader.specs.Named.{AreOwned};
     ghost use Rattle.label_lines.specs.Owners.{is_player, owner_of, IsOwnership};
 
-    /// The players with these names, and the place of each state's owner, the first where none is named.
+    /// Makes the players with these names, and the place of each state's owner, which is the first if none is named.
     pub(crate) fn new(names: IndexMap<Vec<u8>, u64>, owners: Vec<Option<u32>>) -> Owners
         requires { AreOwned names.entries owners.items }
         ensures { result ≡ record { players = names_of names.entries; owners = places_of owners.items } }
@@ -40,14 +40,14 @@ impl Owners {
         Owners { names, owners }
     }
 
-    /// What every ownership keeps: each owner is one of the players.
+    /// Shows what every ownership keeps: each owner is one of the players.
     pub fn known(&self)
         ensures { IsOwnership self.now }
     {
         let _ = &self.owners;
     }
 
-    /// One player, named `p0`, owns all of so many states.
+    /// Makes one player, named `p0`, who owns all of `states` states.
     pub fn single(alloc: Global, states: u32) -> Result<Owners, OutOfMemory>
         ensures players { IfOk result (λ o. o.players ≡ codes "p0" ∷ []) }
         ensures owners { IfOk result (λ o. o.owners ≡ replicate states 0) }
@@ -58,14 +58,14 @@ impl Owners {
         }
     }
 
-    /// Whether there is a player with this name.
+    /// Returns whether there is a player with this name.
     pub fn knows(&self, name: &[u8]) -> bool
         ensures { result ≡ is_player self.now name.now }
     {
         self.names.contains_key(name)
     }
 
-    /// The name of the player who owns a state.
+    /// Returns the name of the player who owns a state.
     pub fn owner(&self, state: u32) -> &[u8]
         requires { state < length self.now.owners }
         ensures { result.now ≡ owner_of self.now state }
@@ -78,7 +78,7 @@ impl Owners {
     }
 }
 
-/// No owner for each of so many states.
+/// Names no owner for any of `states` states.
 pub fn nobody(alloc: Global, states: u32) -> Result<Vec<Option<u32>>, AllocError>
     ensures { IfOk result (λ owners. owners.items ≡ replicate states None) }
 {

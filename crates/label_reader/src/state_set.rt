@@ -1,11 +1,11 @@
-//! A set of states, as a mark for each of them.
+//! A set of states is a mark for each of them.
 
 ghost use Rattle.std.specs.Prelude.{◌≡◌, ◌<◌, ◌≤◌, ◌^◌, Bool, true, false, List, length, replicate, slice_index_or, slice_set, IfOk};
 
 use std::alloc::{AllocError, Global};
 use std::marker::Model;
 
-/// A set of states, which contracts see as the list of their marks. A mark takes a byte.
+/// Contracts see a set of states as the list of its marks. A mark takes a byte.
 #[derive(Drop)]
 pub struct StateSet {
     marks: Vec<bool>,
@@ -18,7 +18,7 @@ impl Model for StateSet {
 }
 
 impl StateSet {
-    /// The empty set of so many states.
+    /// Makes the empty set of `states` states.
     pub fn empty(alloc: Global, states: u32) -> Result<StateSet, AllocError>
         ensures { IfOk result (λ set. set ≡ replicate states false) }
     {
@@ -34,7 +34,7 @@ impl StateSet {
         self.marks[state as usize] = true;
     }
 
-    /// The marks.
+    /// Returns the marks.
     pub fn marks(&self) -> &[bool]
         ensures { result.now ≡ self.now }
     {

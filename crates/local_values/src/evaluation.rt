@@ -1,4 +1,4 @@
-//! The values of a policy.
+//! This module finds the values of a policy.
 
 ghost use Rattle.std.specs.Prelude.{◌≡◌, IfOk, IfSome, OnErr, length, vec_len};
 ghost use Rattle.float_games.specs.Nodes.{nodes_of, nodes_in};
@@ -11,16 +11,16 @@ use float_games::{Chain, FloatGame, bounded};
 use game_outside::OutOfMemory;
 use std::alloc::Global;
 
-/// What a sweep may still change after an elimination.
+/// A sweep may still change values by this much after an elimination.
 const LEFT: f64 = 0.1;
 
-/// The most steps in a Krylov space.
+/// At most this many steps in a Krylov space are taken.
 const STEPS: u32 = 400;
 
-/// Expected moves are near enough where a pass changes them by less than this.
+/// Expected moves are near enough if a pass changes them by less than this.
 const MOVES: f64 = 0.1;
 
-/// Brings values to those of a policy, where each move costs so much. Gives about how much a sweep still changes.
+/// Brings values to those of a policy, when each move costs this much. Returns about how much a sweep still changes.
 pub(crate) fn evaluate(
     alloc: Global,
     game: &FloatGame,
@@ -48,8 +48,8 @@ pub(crate) fn evaluate(
     Ok(left)
 }
 
-/// Adds to values of a policy what they miss, where an elimination takes little. What they miss is found from
-/// differences, which are nearly exact. The only error is want of memory: values then stay as they were.
+/// Adds to values of a policy what they miss, if an elimination takes little. What they miss is found from differences,
+/// which are nearly exact. The only error is that memory ran out, and then the values stay as they were.
 pub fn refine(
     alloc: Global,
     game: &FloatGame,
@@ -73,7 +73,7 @@ pub fn refine(
     Ok(())
 }
 
-/// Adds to each value what it misses, within 0 and the unit.
+/// Adds to each value what it misses, and keeps it from 0 to the unit.
 fn add_missed(values: &mut [f64], missed: &[f64])
     requires { length missed.now ≡ length values.old }
     ensures { AreInUnits values.new }
@@ -83,8 +83,8 @@ fn add_missed(values: &mut [f64], missed: &[f64])
     }
 }
 
-/// For each node how many moves a policy is expected to make before it leaves, or nothing where this is not found. Ten
-/// per cent off is near enough. The only error is want of memory.
+/// Returns for each node how many moves a policy is expected to make before it leaves, or nothing if this is not found.
+/// Ten per cent off is near enough. The only error is that memory ran out.
 pub fn expected_moves(
     alloc: Global,
     game: &FloatGame,
@@ -113,7 +113,7 @@ pub fn expected_moves(
     Ok(None)
 }
 
-/// Whether a few passes are enough.
+/// Returns whether a few passes are enough.
 fn is_passed(chain: &Chain, sums: &[f64], values: &mut [f64]) -> bool
     requires sums { length sums.now ≡ nodes_in chain.now }
     requires values { length values.old ≡ nodes_in chain.now }
@@ -126,14 +126,14 @@ fn is_passed(chain: &Chain, sums: &[f64], values: &mut [f64]) -> bool
     false
 }
 
-/// Each value becomes another one, from 0 to the unit.
+/// Replaces each value by another one, from 0 to the unit.
 fn replace(values: &mut [f64], others: &[f64]) {
     for (value, other) in values.iter_mut().zip(others) {
         *value = bounded(*other);
     }
 }
 
-/// Each value becomes the nearest one from 0 to the unit.
+/// Replaces each value by the nearest one from 0 to the unit.
 fn bound(values: &mut [f64]) {
     for value in values {
         *value = bounded(*value);

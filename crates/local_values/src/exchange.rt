@@ -1,4 +1,4 @@
-//! Exchanges of choices by differences of values.
+//! This module exchanges choices by differences of values.
 
 ghost use Rattle.std.specs.Prelude.{◌≡◌, IfOk, length, vec_len};
 ghost use Rattle.float_games.specs.Nodes.{nodes_of};
@@ -8,11 +8,12 @@ use float_games::{Chain, FloatGame};
 use game_outside::OutOfMemory;
 use std::alloc::Global;
 
-/// A choice is exchanged for one that gains more than this part of the value: less is lost in floats.
+/// A choice is exchanged for one that gains more than this part of the value, because a smaller gain is lost in floats.
 const TIE: f64 = 0.000_000_000_000_001;
 
-/// Exchanges choices for ones that gain over values, the minimiser's first and the maximiser's where it has none, if
-/// an elimination takes little. Whether there is one. The only error is want of memory.
+/// Exchanges choices for ones that gain over values, if an elimination takes little: the minimiser's first, and the
+/// maximiser's if the minimiser has no exchange. Returns whether there is an exchange. The only error is that memory
+/// ran out.
 pub(crate) fn exchange(
     alloc: Global,
     game: &FloatGame,
@@ -33,7 +34,7 @@ pub(crate) fn exchange(
     exchange_of(alloc, game, true, values, policy)
 }
 
-/// Exchanges choices of a side. Whether there is one.
+/// Exchanges choices of a side, and returns whether there is an exchange.
 fn exchange_of(
     alloc: Global,
     game: &FloatGame,
@@ -70,7 +71,7 @@ fn exchange_of(
     Ok(is_any)
 }
 
-/// What each node gains by its choice in a policy.
+/// Returns what each node gains by its choice in a policy.
 fn gains(
     alloc: Global,
     game: &FloatGame,
@@ -84,7 +85,7 @@ fn gains(
     Chain::of_policy(game, policy).residuals(alloc, values)
 }
 
-/// Goes on to the next choice of each node that has one. Whether there is such a node.
+/// Goes on to the next choice of each node that has one, and returns whether there is such a node.
 fn advance(firsts: &[u32], choices: usize, tried: &mut [u32]) -> bool
     ensures { length tried.new ≡ length tried.old }
 {

@@ -1,4 +1,4 @@
-//! Strategy iteration.
+//! This module has strategy iteration.
 
 ghost use Rattle.std.specs.Prelude.{◌≡◌, length};
 ghost use Rattle.float_games.specs.Nodes.{nodes_of};
@@ -10,26 +10,28 @@ use game_outside::OutOfMemory;
 use std::alloc::Global;
 use std::num::{nearest_usize_to_f64, saturating_f64_to_u32};
 
-/// The most policies.
+/// At most this many policies are evaluated.
 const POLICIES: u32 = 200;
 
-/// How many turns without an exchange are waited for a better evaluation.
+/// A better evaluation is awaited for this many turns without an exchange.
 const PATIENCE: u32 = 12;
 
-/// How many sweeps follow an evaluation by steps in a Krylov space.
+/// This many sweeps follow an evaluation by steps in a Krylov space.
 const SWEEPS: u32 = 12;
 
-/// Sweeps without an exchange, after which no more are made.
+/// After this many sweeps in a row without an exchange no more are made.
 const IDLE: u32 = 3;
 
-/// What sweeps behind an evaluation did: how many choices the first one exchanged, and how many all did.
+/// Of the choices that the sweeps after an evaluation exchanged, `at_first` counts those of the first sweep, and
+/// `in_all` all.
 #[derive(Clone, Copy)]
 struct Exchanges {
     at_first: u32,
     in_all: u32,
 }
 
-/// The least change that evaluations left in turns without an exchange, and how many more such turns are waited.
+/// This is the least change that evaluations left in turns without an exchange, and how many more such turns are
+/// awaited.
 #[derive(Clone, Copy)]
 struct Patience {
     least: f64,
@@ -37,7 +39,7 @@ struct Patience {
 }
 
 impl Patience {
-    /// After a turn that left so much: more patience where this is less than half.
+    /// Returns the patience after a turn that left this much. It begins anew if this is less than half of the least.
     fn after(self, left: f64) -> Patience {
         if left < 0.5 * self.least {
             return Patience {
@@ -52,7 +54,7 @@ impl Patience {
     }
 }
 
-/// Evaluates policies and exchanges choices, until none gains. True where it came to that.
+/// Evaluates policies and exchanges choices until none gains. Returns whether it came to that.
 pub(crate) fn iterate(
     alloc: Global,
     game: &FloatGame,
@@ -90,7 +92,8 @@ pub(crate) fn iterate(
     Ok(false)
 }
 
-/// How many sweeps follow an evaluation: about as much work as an elimination is, from 5 to 60.
+/// Returns how many sweeps follow an evaluation. After an elimination they are about as much work as it is, and from 5
+/// to 60.
 fn sweeps_of(game: &FloatGame, policy: &[u32]) -> u32
     requires { length policy.now ≡ nodes_of game.now }
 {
@@ -105,7 +108,7 @@ fn sweeps_of(game: &FloatGame, policy: &[u32]) -> u32
         .min(60)
 }
 
-/// At most so many sweeps, fewer where these exchange nothing.
+/// Makes at most this many sweeps, and fewer if these exchange nothing.
 fn sweep(
     game: &FloatGame,
     cost: f64,

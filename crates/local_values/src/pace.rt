@@ -1,8 +1,8 @@
-//! How fast sweeps come near.
+//! This module says how fast sweeps come near.
 
 use crate::limits::ENOUGH;
 
-/// The changes of the first and of the last of eight sweeps.
+/// A pace has the changes of the first and of the last of at most eight sweeps.
 #[derive(Clone, Copy)]
 pub struct Pace {
     pub first: f64,
@@ -10,13 +10,13 @@ pub struct Pace {
 }
 
 impl Pace {
-    /// Whether the last sweep changed little enough.
+    /// Returns whether the last sweep changed little enough.
     pub(crate) fn is_done(self) -> bool {
         self.last <= ENOUGH
     }
 
-    /// Whether at this rate more than forty sweeps are left: the rate is the seventh root of the last change over the
-    /// first, and its fortieth power is more than what the change must shrink by.
+    /// Returns whether more than forty sweeps are left at this rate. The rate is the seventh root of the last change
+    /// over the first. More are left if its fortieth power is greater than the factor by which the change must shrink.
     pub(crate) fn is_slow(self) -> bool {
         if !(self.last < self.first) {
             return true;
@@ -27,14 +27,14 @@ impl Pace {
     }
 }
 
-/// The eighth power.
+/// Returns the eighth power.
 fn eighth(x: f64) -> f64 {
     let second = x * x;
     let fourth = second * second;
     fourth * fourth
 }
 
-/// The fifth power.
+/// Returns the fifth power.
 fn fifth(x: f64) -> f64 {
     let second = x * x;
     second * second * x

@@ -1,4 +1,4 @@
-//! How far values of a policy slide where each move costs some units.
+//! This module finds how far values of a policy slide when each move costs some units.
 
 ghost use Rattle.std.specs.Prelude.{◌≡◌, ◌+◌, ◌^◌, ◌<◌, IfOk, IfSome, length, vec_len};
 ghost use Rattle.float_games.specs.Nodes.{nodes_of, nodes_in};
@@ -10,25 +10,25 @@ use float_games::{Band, Chain, FloatGame};
 use game_outside::OutOfMemory;
 use std::alloc::Global;
 
-/// The most turns in which nodes are let go.
+/// Nodes are let go in at most this many turns.
 const TURNS: u32 = 12;
 
-/// How often nodes are looked at in each direction before those that slide less than all the way are let go.
+/// In a turn, nodes are looked at this many times in each direction.
 const PASSES: u32 = 4;
 
-/// How far values slide: by this many units in any case, and by some more for each of so many moves.
+/// A value slides by this many units in any case, and by the cost of a move for each of this many moves.
 #[derive(Drop)]
 pub struct Slide {
-    /// The units.
+    /// These are the units.
     pub drops: Vec<f64>,
-    /// The moves.
+    /// These are the moves.
     pub moves: Vec<f64>,
 }
 
-/// How far each node slides where a move costs so many units and each node has only so much room. A policy may be
-/// expected to make more moves than floats count: nodes that would slide further than their room stop there, and the
-/// others slide by the moves until the policy leaves or stops. Nothing where moves are not found. The only error is
-/// want of memory.
+/// Finds how far each node slides when a move costs this many units and each node has only its room. A policy may be
+/// expected to make more moves than floats count. Nodes that would slide further than their room stop there, and the
+/// others slide by the moves until the policy leaves or stops. Returns nothing if moves are not found. The only error
+/// is that memory ran out.
 pub fn find_slide(
     alloc: Global,
     game: &FloatGame,
@@ -61,7 +61,7 @@ pub fn find_slide(
     Ok(Some(slide))
 }
 
-/// Whether no node would slide further than its room.
+/// Returns whether no node would slide further than its room.
 fn fit(moves: &[f64], cost: f64, rooms: &[f64]) -> bool {
     moves
         .iter()
@@ -69,7 +69,7 @@ fn fit(moves: &[f64], cost: f64, rooms: &[f64]) -> bool {
         .all(|(count, room)| cost * *count <= *room)
 }
 
-/// The slide of a chain that stops at some nodes, which slide as far as they have room.
+/// Finds the slide of a chain that stops at some nodes, which slide as far as they have room.
 fn slide_past(
     alloc: Global,
     chain: &Chain,
@@ -97,7 +97,7 @@ fn slide_past(
     Ok(Slide { drops, moves })
 }
 
-/// Lets nodes go that slide less far than they have room, as passes tell. Whether there is one that stopped.
+/// Lets nodes go that slide less far than they have room, as passes tell. Returns whether one of them had stopped.
 fn let_go(
     alloc: Global,
     chain: &Chain,
@@ -128,7 +128,8 @@ fn let_go(
     Ok(is_any)
 }
 
-/// Looks at a node once more, and lets it go where it slides less far than it has room. Whether it stopped before.
+/// Looks at a node once more, and lets it go if it slides less far than was found before. Returns whether it had
+/// stopped.
 fn is_let_go(
     chain: &Chain,
     cost: f64,

@@ -1,4 +1,4 @@
-//! Sweeps first, then strategy iteration.
+//! This module sweeps first, and then iterates strategies.
 
 ghost use Rattle.std.specs.Prelude.{◌≡◌, IsTrue, OnOk, length};
 ghost use Rattle.float_games.specs.Nodes.{nodes_of};
@@ -13,20 +13,21 @@ use float_games::FloatGame;
 use game_outside::OutOfMemory;
 use std::alloc::Global;
 
-/// The most rounds of sweeps.
+/// There are at most this many rounds of sweeps.
 const ROUNDS: u32 = 200;
 
-/// How many sweeps of a policy a round has at most.
+/// A round has at most this many sweeps of a policy.
 const SWEEPS: u32 = 8;
 
-/// What the last sweeps may change where values count as found.
+/// Values count as found only if the last sweep changes them by at most this.
 const FOUND: f64 = 64.0;
 
-/// How many times choices are exchanged by differences at most.
+/// Choices are exchanged by differences at most this many times.
 const TURNS: u32 = 20;
 
-/// Brings values and a policy near those of the game, and values nearer from what they miss. Choices may tie in floats
-/// and gain by differences, where loops make much of little: then they are exchanged. The only error is want of memory.
+/// Brings values and a policy near those of the game, and values nearer from what they miss. If loops enlarge small
+/// differences, choices may tie in floats and still gain by differences. Then they are exchanged. The only error is
+/// that memory ran out.
 pub fn solve_nearly(
     alloc: Global,
     game: &FloatGame,
@@ -48,9 +49,9 @@ pub fn solve_nearly(
     Ok(())
 }
 
-/// Brings values and a policy near those of the game where each move costs so many units: for lower values the policy
-/// of the maximiser should leave for sure, and values be low. True where a sweep changes little in the end. The only
-/// error is want of memory.
+/// Brings values and a policy near those of the game when each move costs this many units. For lower values the initial
+/// policy of the maximiser should leave with probability 1, and the initial values should be low. Returns whether a
+/// sweep changes little in the end. The only error is that memory ran out.
 pub fn solve(
     alloc: Global,
     game: &FloatGame,
@@ -71,7 +72,7 @@ pub fn solve(
     Ok(last_change(game, cost, values, &mut other) <= FOUND && is_found)
 }
 
-/// Sweeps while these come near fast. True where one changes little in the end.
+/// Sweeps while values come near fast. Returns whether a sweep changes little in the end.
 fn is_swept(game: &FloatGame, cost: f64, values: &mut [f64], policy: &mut [u32]) -> bool
     requires values { length values.old ≡ nodes_of game.now }
     requires policy { length policy.old ≡ nodes_of game.now }
@@ -89,7 +90,7 @@ fn is_swept(game: &FloatGame, cost: f64, values: &mut [f64], policy: &mut [u32])
     false
 }
 
-/// Sweeps of a policy.
+/// Makes sweeps of a policy.
 fn follow(game: &FloatGame, cost: f64, values: &mut [f64], policy: &[u32]) -> Pace
     requires values { length values.old ≡ nodes_of game.now }
     requires policy { length policy.now ≡ nodes_of game.now }
@@ -105,7 +106,7 @@ fn follow(game: &FloatGame, cost: f64, values: &mut [f64], policy: &[u32]) -> Pa
     Pace { first, last }
 }
 
-/// Sweeps until one changes little, at most eight. Gives what the last one changed.
+/// Sweeps until a sweep changes little, at most eight times. Returns what the last one changed.
 fn last_change(game: &FloatGame, cost: f64, values: &mut [f64], policy: &mut [u32]) -> f64
     requires values { length values.old ≡ nodes_of game.now }
     requires policy { length policy.old ≡ nodes_of game.now }

@@ -1,9 +1,9 @@
-//! Lists of floats as vectors. Where lists of a product differ in length, the rest of the longer one is left out.
+//! This module takes lists of floats as vectors. If two lists differ in length, the rest of the longer one is left out.
 
 ghost use Rattle.std.specs.Float.{◌≤ᶠ◌, float_zero};
 ghost use Rattle.std.specs.Prelude.{◌≡◌, length};
 
-/// The sum of the products.
+/// Returns the sum of the products.
 pub(crate) fn product(a: &[f64], b: &[f64]) -> f64 {
     let mut sum = 0.0;
     for (x, y) in a.iter().zip(b) {
@@ -12,7 +12,7 @@ pub(crate) fn product(a: &[f64], b: &[f64]) -> f64 {
     sum
 }
 
-/// The sums of the squares of a vector, and of its products with another.
+/// Returns the sums of the squares of a vector, and of its products with another.
 pub(crate) fn square_and_product(a: &[f64], b: &[f64]) -> (f64, f64) {
     let mut squares = 0.0;
     let mut products = 0.0;
@@ -23,7 +23,7 @@ pub(crate) fn square_and_product(a: &[f64], b: &[f64]) -> (f64, f64) {
     (squares, products)
 }
 
-/// The greatest size of an entry; infinite where one is no number.
+/// Returns the greatest size of an entry, which is infinite if an entry is no number.
 pub(crate) fn greatest(list: &[f64]) -> f64
     ensures { float_zero ≤ᶠ result }
 {
@@ -34,7 +34,7 @@ pub(crate) fn greatest(list: &[f64]) -> f64
     most
 }
 
-/// The greater one of this and the size of an entry; infinite where that is no number.
+/// Returns the greater one of this and the size of an entry, and infinity if that is no number.
 pub(crate) fn greater(most: f64, x: f64) -> f64
     ensures { float_zero ≤ᶠ most → float_zero ≤ᶠ result }
 {

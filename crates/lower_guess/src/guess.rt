@@ -1,4 +1,4 @@
-//! The lower guess of a table.
+//! This module makes the lower guess of a table.
 
 ghost use Rattle.std.specs.Prelude.{◌≡◌, length, slice_index, IfOk};
 ghost use Rattle.game_model.specs.Query.{states};
@@ -18,28 +18,29 @@ use rank_certificate::laws::ranked_is_near;
 use rank_certificate::{RankPlan, find_ranks_over};
 use std::alloc::Global;
 
-/// A lower table in units, and the plan that makes it ranked.
+/// This is a lower table in units, with the plan that proves it.
 #[derive(Drop)]
 pub struct LowerGuess {
-    /// The table.
+    /// Each state has a lower bound.
     pub values: Vec<u64>,
-    /// Its plan.
+    /// These choices and ranks prove the table.
     pub plan: RankPlan,
 }
 
-/// The place of the last excess.
+/// The last excess has this place.
 pub const LAST_PLACE: u32 = 2;
 
-/// The lower guess of a table of values in units, where these choices and some ranks vouch for the table: the first of
-/// 15 tables that any choices and ranks vouch for, with the plan of [`rank_certificate::rank_table`]. For an excess of
-/// 4, 2 and then 1 units, the first of its tables has the excess over the given one, but the unit at goals, 0 on the
-/// zero set, and nowhere more than the unit; four times the next one is the lesser of the last and of its down step.
-/// Where no table can be ranked, the guess is the given one, with these choices and the ranks of
-/// [`rank_certificate::find_ranks`].
+/// Returns the lower guess of a table of values in units, which these choices and some ranks have to prove. The guess
+/// is the first of 15 tables that any choices and ranks prove, with the plan of [`rank_certificate::rank_table`]. There
+/// are five tables for each excess: 4, 2 and then 1 units. The first one has the unit at goals and 0 on the zero set.
+/// Elsewhere it has the entry and the excess, but at most the unit. Each of the next four is the lesser of the one
+/// before and of its down step. If no table can be ranked, the guess is the given one, with these choices and the ranks
+/// of [`rank_certificate::find_ranks`].
 ///
-/// The guess is nowhere below the table, and k-step values come as near to it as one likes. A table of which a state
-/// falls is refused without ranks. A first table takes a step at each state, and a later one at the predecessors of
-/// what fell. The time is no part of the contract. The only error is want of memory.
+/// The guess is nowhere below the table, and k-step values come as near to it as one likes. A table is refused without
+/// a search for ranks if a state falls, which means that its down step is below its entry. For the first table of an
+/// excess each state takes a step, and for a later one only the predecessors of the states that fell. The time is no
+/// part of the contract. The only error is that memory ran out.
 pub fn lower_guess<'a>(
     alloc: Global,
     question: &'a Question<'a>,
@@ -62,8 +63,8 @@ pub fn lower_guess<'a>(
     lower_guess_over(alloc, question, zero, base, choices, &predecessors)
 }
 
-/// The guess of [`lower_guess`], over the predecessors in the question's game, for a caller that has these lists. The
-/// only error is want of memory.
+/// Returns the guess of [`lower_guess`] for a caller that has the lists of predecessors of the question's game. The
+/// only error is that memory ran out.
 pub fn lower_guess_over<'a>(
     alloc: Global,
     question: &'a Question<'a>,
@@ -114,7 +115,7 @@ pub fn lower_guess_over<'a>(
     })
 }
 
-/// The excess at a place: 4, 2 and 1 units.
+/// Returns the excess at a place: 4, 2 and 1 units.
 fn excess_at(place: u32) -> u64
     ensures { result ≡ excess place }
 {

@@ -1,4 +1,4 @@
-//! The raised tables of one excess.
+//! This module makes the raised tables of one excess.
 
 ghost use Rattle.std.specs.Prelude.{◌≡◌, ℕ, ◌<◌, ◌≤◌, length, slice_index, All, IfOk};
 ghost use Rattle.game_model.specs.Query.{IsQuery, states};
@@ -13,11 +13,11 @@ use predecessors::Predecessors;
 use rank_certificate::rank_standing;
 use std::alloc::Global;
 
-/// The most steps down of one excess.
+/// An excess has at most this many steps down.
 pub const MOST_STEPS: u32 = 4;
 
-/// What the tables of one excess are made from: a question, its zero set, a lower table and the excess; and for each
-/// state the moves that lead to it.
+/// The tables of one excess are made from a question, its zero set, a lower table and the excess, and for each state
+/// the moves that lead to it.
 #[derive(Drop)]
 pub struct Guesses<'a> {
     pub question: &'a Question<'a>,
@@ -40,8 +40,8 @@ impl Guesses<'_> {
     ghost use Rattle.lower_guess.specs.LowerGuess.{most_steps};
     ghost use Rattle.lower_guess.specs.inside.OfGuesses.{first_entry_of, IsTableOf, IsRefusedOf, AreRefusedOf, IsFirstOf};
 
-    /// The first of the tables of this excess that can be ranked, with its plan; none where each is refused. None is
-    /// made where the last one is seen to fall.
+    /// Returns the first of the tables of this excess that can be ranked, with its plan, or none if each is refused. It
+    /// makes no table if the last one is seen to fall.
     pub fn first_ranked(&self, alloc: Global) -> Result<Option<LowerGuess>, OutOfMemory>
         ensures found { IfOk result (λ found. MatchOption found (AreRefusedOf self.now)
             (λ g. IsFirstOf self.now g.values.items)) }
@@ -57,8 +57,8 @@ impl Guesses<'_> {
         }
     }
 
-    /// The same, by making the tables one after another. One of which a state falls is refused. Where none falls, all
-    /// later ones are the same, and the search for ranks decides. Behind the first step only predecessors of states
+    /// Returns the same by making the tables in turn. If a state falls, the table is refused. If no state falls, all
+    /// later tables are the same, and the search for ranks decides. After the first step only predecessors of states
     /// that fell are looked at.
     fn first_made(&self, alloc: Global) -> Result<Option<LowerGuess>, OutOfMemory>
         ensures found { IfOk result (λ found. MatchOption found (AreRefusedOf self.now)
@@ -90,8 +90,8 @@ impl Guesses<'_> {
         Ok(None)
     }
 
-    /// A table after so many steps down, of which no state falls, with its plan; none where it is refused, and
-    /// so each later one.
+    /// Returns a table after this many steps down, in which no state falls, with its plan. It returns none if the table
+    /// is refused, since then each later one is refused.
     fn rank(
         &self,
         alloc: Global,
@@ -119,7 +119,7 @@ impl Guesses<'_> {
         }))
     }
 
-    /// The table before any step down.
+    /// Makes the table before any step down.
     fn first_table(&self, alloc: Global) -> Result<Vec<u64>, OutOfMemory>
         ensures { IfOk result (λ table. IsTableOf self.now 0 table.items) }
     {
@@ -131,7 +131,7 @@ impl Guesses<'_> {
         Ok(table)
     }
 
-    /// The entry of that table at a state.
+    /// Returns the entry of that table at a state.
     pub fn first_entry(&self, state: u32) -> u64
         requires { state < states self.now.question.now }
         ensures value { result ≡ first_entry_of self.now state }

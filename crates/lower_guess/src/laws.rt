@@ -1,4 +1,4 @@
-//! Laws of lower guesses. No function here does anything: its contract is the law.
+//! This module has the laws of lower guesses. Each function does nothing: its contract is the law.
 
 ghost use Rattle.std.specs.Prelude.{◌≡◌, ℕ, List, Bool, Option};
 ghost use Rattle.game_model.specs.Query.{Query};
@@ -16,7 +16,7 @@ pub fn one_lower_guess()
         → (values ≡ other) × (choices ≡ others) × (ranks ≡ alike) }
 {}
 
-/// The values of a lower guess do not depend on the choices that were handed in.
+/// The values of a lower guess do not depend on the given choices.
 pub fn one_lower_table()
     ensures { (q : Query) (marks : List Bool) (base : List ℕ) (given instead : List (Option ℕ)) (values other : List ℕ)
         (choices others : List (Option ℕ)) (ranks alike : List ℕ) →
@@ -24,7 +24,7 @@ pub fn one_lower_table()
         → values ≡ other }
 {}
 
-/// The limits of the code are those of the definitions.
+/// The limits of the code are equal to those of the definitions.
 pub fn guess_limits()
     ensures place { LAST_PLACE ≡ last_place }
     ensures steps { MOST_STEPS ≡ most_steps }

@@ -1,4 +1,4 @@
-//! The entry of a raised table at one state, without the table: by recursion over the choices.
+//! The entry of a raised table at one state is found without the table, by recursion over the choices.
 
 ghost use Rattle.std.specs.Prelude.{◌≡◌, ◌<◌, length, IfSome, IsTrue};
 ghost use Rattle.game_model.specs.Game.{choices_of};
@@ -11,15 +11,16 @@ use crate::guesses::{Guesses, MOST_STEPS};
 use fixed_bellman::Quotient;
 use game_model::{Side, UNIT};
 
-/// At how many states, evenly spread, it is looked whether the last table falls.
+/// This many states, evenly spread, are checked for a fall of the last table.
 const MOST_TRIES: u32 = 256;
 
-/// All of these may together look into one state for so many states of the question: a table costs more.
+/// All these checks together look into at most one state for this many states of the question, since a table would cost
+/// more.
 const STATES_FOR_A_LOOK: u32 = 4;
 
 impl Guesses<'_> {
-    /// Whether the last table of the excess is seen to fall, at one of some states: then each table of it falls, and is
-    /// refused.
+    /// Returns whether the last table of the excess is seen to fall at one of some states. Then each table of the
+    /// excess falls, and is refused.
     pub fn falls_to_the_last(&self) -> bool
         ensures { IsTrue result → AreRefusedOf self.now }
     {
@@ -37,7 +38,7 @@ impl Guesses<'_> {
         false
     }
 
-    /// Whether the last table is seen to fall at this state, where the budget suffices.
+    /// Returns whether the last table is seen to fall at this state, if the budget suffices.
     fn falls_at(&self, state: u32, budget: &mut u32) -> bool
         requires { state < states self.now.question.now }
         ensures { IsTrue result → AreRefusedOf self.now }
@@ -51,7 +52,7 @@ impl Guesses<'_> {
         step < entry
     }
 
-    /// The entry at a state after so many steps down, where the budget suffices.
+    /// Returns the entry at a state after this many steps down, if the budget suffices.
     #[cycle(local)]
     fn entry(&self, steps: u32, state: u32, budget: &mut u32) -> Option<u64>
         requires { state < states self.now.question.now }
@@ -68,7 +69,7 @@ impl Guesses<'_> {
         Some(entry.min(step))
     }
 
-    /// The down step of that table at the state.
+    /// Returns the down step of that table at the state.
     #[cycle(local)]
     fn step(&self, steps: u32, state: u32, budget: &mut u32) -> Option<u64>
         requires { state < states self.now.question.now }
@@ -87,7 +88,7 @@ impl Guesses<'_> {
         self.best(steps, state, budget)
     }
 
-    /// The down value of the best choice of a state.
+    /// Returns the down value of the best choice of a state.
     #[cycle(local)]
     fn best(&self, steps: u32, state: u32, budget: &mut u32) -> Option<u64>
         requires { state < states self.now.question.now }
@@ -102,7 +103,7 @@ impl Guesses<'_> {
         Some(best)
     }
 
-    /// The down value of a choice.
+    /// Returns the down value of a choice.
     #[cycle(local)]
     fn value(&self, steps: u32, state: u32, choice: u32, budget: &mut u32) -> Option<u64>
         requires state { state < states self.now.question.now }
@@ -114,7 +115,7 @@ impl Guesses<'_> {
         Some(Quotient::new(sum, total).down())
     }
 
-    /// The sum of weight times entry of the successor.
+    /// Returns the sum of weight times entry of the successor.
     #[cycle(local)]
     fn sum(&self, steps: u32, state: u32, choice: u32, budget: &mut u32) -> Option<u128>
         requires state { state < states self.now.question.now }
@@ -132,7 +133,7 @@ impl Guesses<'_> {
     }
 }
 
-/// The better of two values for a side.
+/// Returns the better of two values for a side.
 fn better(side: Side, one: u64, other: u64) -> u64
     ensures { result ≡ better side one other }
 {

@@ -1,4 +1,4 @@
--- Which states may rise, between two rounds.
+-- An agenda says between two rounds which states may rise.
 use Rattle.std.specs.Prelude.{◌≡◌, ◌≢◌, ℕ, ◌<◌, ◌≤◌, Bool, true, false, List, length, All, slice_index, slice_index_or}
 use Rattle.game_model.specs.Game.{Distribution}
 use Rattle.game_model.specs.Query.{Query, states}
@@ -8,23 +8,23 @@ use Rattle.predecessors.specs.Moves.{LeadsTo}
 use Rattle.predecessors.specs.Marks.{IsMarked}
 use Rattle.marked_rounds.specs.declared.agenda.Agenda.{Agenda}
 
--- the value that was read of a state
+-- This is the value that was read of a state.
 abbrev pub read_of : Agenda → ℕ → ℕ
 read_of agenda = slice_index agenda.read.items
 
--- one value, at most the unit, and two marks for each state
+-- Each state has one value, at most the unit, and two marks.
 pub record IsSized (q : Query) (agenda : Agenda) : Type 0 where
   pub read : length agenda.read.items ≡ states q
   pub units : All (λ v. v ≤ unit) agenda.read.items
   pub marks : length agenda.marks.items ≡ states q
   pub more : length agenda.more.items ≡ states q
 
--- where an agenda says that all states are to be updated, each has a mark
+-- If an agenda says that all states are to be updated, each has a mark.
 abbrev pub IsWhole : Query → Agenda → Type 0
 IsWhole q agenda = agenda.whole ≡ true → (s : ℕ) → s < states q → IsMarked agenda.marks.items s
 
--- a state without a mark is quiet: its down step over the values that were read is at most its own. These are nowhere
--- above what was seen
+-- A state without a mark is quiet: its down step over the values that were read is at most its own value. The values
+-- that were read are nowhere above what was seen.
 pub record IsAgenda (q : Query) (agenda : Agenda) (seen : ℕ → ℕ) : Type 0 where
   pub sized : IsSized q agenda
   pub whole : IsWhole q agenda
@@ -32,28 +32,28 @@ pub record IsAgenda (q : Query) (agenda : Agenda) (seen : ℕ → ℕ) : Type 0 
   pub quiet : (s : ℕ) → s < states q → slice_index_or agenda.marks.items s false ≡ false
       → down_step q (read_of agenda) s ≤ read_of agenda s
 
--- a state was looked at again: its value is no smaller, and at most what is seen now; if it had the second mark, it is
--- at least what was seen before; where it is another one, the state has the second mark
+-- A state was looked at again. Its value is no smaller, and at most what is seen now. If it had the second mark, its
+-- value is at least what was seen before. If its value changed, it has the second mark.
 pub record IsStateRead (s : ℕ) (old new : Agenda) (before after : ℕ → ℕ) : Type 0 where
   pub rises : read_of old s ≤ read_of new s
   pub below : read_of new s ≤ after s
   pub marked : IsMarked old.more.items s → before s ≤ read_of new s
   pub same : slice_index_or new.more.items s false ≡ false → read_of new s ≡ read_of old s
 
--- nothing else was touched
+-- The values and the second marks of all other states are unchanged.
 pub record IsElsewhere (s : ℕ) (old new : Agenda) : Type 0 where
   pub read : (t : ℕ) → t ≢ s → read_of new t ≡ read_of old t
   pub more : (t : ℕ) → t ≢ s → slice_index_or new.more.items t false ≡ slice_index_or old.more.items t false
 
--- after a round the states were looked at again: each value is no smaller, and at most what is seen now; that of a
--- marked state is at least what was seen before; where it is another one, the state has the second mark
+-- After a round the states were looked at again. Each value is no smaller, and at most what is seen now. The value of a
+-- marked state is at least what was seen before. A state whose value changed has the second mark.
 pub record IsReadAgain (q : Query) (old new : Agenda) (before after : ℕ → ℕ) : Type 0 where
   pub rises : (s : ℕ) → s < states q → read_of old s ≤ read_of new s
   pub below : (s : ℕ) → s < states q → read_of new s ≤ after s
   pub marked : (s : ℕ) → s < states q → IsMarked old.marks.items s → before s ≤ read_of new s
   pub same : (s : ℕ) → s < states q → slice_index_or new.more.items s false ≡ false → read_of new s ≡ read_of old s
 
--- each state with an edge to a changed one has a mark
+-- Each state with an edge to a changed state has a mark.
 abbrev pub AreMarkedFor : List (List Distribution) → List Bool → List Bool → Type 0
 AreMarkedFor game changed marks = (s c t : ℕ) → t < length game → IsMarked changed t → LeadsTo game s c t
     → IsMarked marks s

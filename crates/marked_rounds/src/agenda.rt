@@ -1,4 +1,4 @@
-//! Which states may rise, between two rounds.
+//! This module says between two rounds which states may rise.
 
 ghost use Rattle.std.specs.Prelude.{◌≡◌, ℕ, ◌<◌, ◌≤◌, true, false, length, slice_index_or, IfOk};
 ghost use Rattle.game_model.specs.Limits.{most_states};
@@ -18,22 +18,22 @@ use round_workers::next_mark;
 use std::alloc::Global;
 use value_words::{Pass, Posing, ValueTable};
 
-/// The values that were read last, and the states to update: one without a mark is quiet, that is its down step over
-/// these values is at most its own.
+/// An agenda has the values that were read last, and the states to update. A state without a mark is quiet: its down
+/// step over these values is at most its own value.
 #[derive(Drop)]
 pub struct Agenda {
-    /// The values, by state.
+    /// These are the values, by state.
     pub read: Vec<u64>,
-    /// The states to update in the next round.
+    /// The next round updates the states with these marks.
     pub marks: Vec<bool>,
-    /// Whether all states are to be updated.
+    /// All states are to be updated if this is true.
     pub whole: bool,
-    /// Those that workers marked in the last round; once the states are read, those whose values changed.
+    /// Workers mark states here in a round. Once the states are read, the marked ones are those whose values changed.
     pub more: Vec<bool>,
 }
 
 impl Agenda {
-    /// All states are to be updated, and the values are those of the opening table.
+    /// Makes the first agenda: all states are to be updated, and the values are those of the opening table.
     pub fn open(alloc: Global, question: &Question) -> Result<Agenda, OutOfMemory>
         ensures sized { IfOk result (λ agenda. IsSized question.now agenda) }
         ensures opens { IfOk result (λ agenda. (s : ℕ) → s < states question.now
@@ -56,8 +56,8 @@ impl Agenda {
     }
 }
 
-/// The first place from one on that has a mark; the number of marks, where there is none. Where the place itself has
-/// one, no stretch is looked at.
+/// Returns the first place from one on that has a mark, or the number of marks if there is none. If the place itself
+/// has one, no stretch is looked at.
 fn mark_from(marks: &[bool], from: u32) -> u32
     requires few { length marks.now ≤ most_states }
     requires from { from ≤ length marks.now }
@@ -70,7 +70,7 @@ fn mark_from(marks: &[bool], from: u32) -> u32
     next_mark(marks, from)
 }
 
-/// Takes the marks off; those that were updated have the second mark then.
+/// Takes the marks off. The states that were updated have the second mark then.
 fn take_marks(agenda: &mut Agenda)
     requires { length agenda.old.more.items ≡ length agenda.old.marks.items }
     ensures read { agenda.new.read.items ≡ agenda.old.read.items }
@@ -86,8 +86,8 @@ fn take_marks(agenda: &mut Agenda)
     agenda.whole = false;
 }
 
-/// Reads the states that were updated. How many values changed; these states have the second mark then, and no other
-/// one has a mark.
+/// Reads the states that were updated, and says how many values changed. The states that changed have the second mark
+/// then, and no state has another mark.
 pub fn read_again<P: Posing>(
     table: &ValueTable<'_, P>,
     pass: &mut Pass<P>,
@@ -106,7 +106,8 @@ pub fn read_again<P: Posing>(
     read_marked(table, pass, agenda)
 }
 
-/// Reads the states with a second mark. How many values changed; these states keep it.
+/// Reads the states with a second mark, and says how many values changed. The states that changed keep it, and the
+/// others lose it.
 fn read_marked<P: Posing>(table: &ValueTable<'_, P>, pass: &mut Pass<P>, agenda: &mut Agenda) -> u32
     requires pass { IsOf table.now pass.old }
     requires sized { IsSized P.posed agenda.old }
@@ -130,7 +131,7 @@ fn read_marked<P: Posing>(table: &ValueTable<'_, P>, pass: &mut Pass<P>, agenda:
     changed
 }
 
-/// Reads a state. Whether its value changed; else it loses its second mark.
+/// Reads a state, and says whether its value changed. If not, the state loses its second mark.
 fn read_state<P: Posing>(
     table: &ValueTable<'_, P>,
     pass: &mut Pass<P>,
@@ -156,7 +157,7 @@ fn read_state<P: Posing>(
     changed
 }
 
-/// Marks the predecessors of the states that changed; all states, where most of them changed.
+/// Marks the predecessors of the states that changed, or all states if most of them changed.
 pub fn mark_again(game: &Game, predecessors: &Predecessors, agenda: &mut Agenda, changed: u32)
     requires predecessors { ArePredecessors game.now predecessors.now }
     requires marks { length agenda.old.marks.items ≡ length game.now }
@@ -187,7 +188,7 @@ fn mark_all(agenda: &mut Agenda)
     agenda.more.fill(false);
 }
 
-/// Marks the predecessors of the states that changed, and takes the marks of these off.
+/// Marks the predecessors of the states that changed, and takes the second marks of these states off.
 fn mark_changed(game: &Game, predecessors: &Predecessors, changed: &mut [bool], marks: &mut [bool])
     requires predecessors { ArePredecessors game.now predecessors.now }
     requires changed { length changed.old ≡ length game.now }

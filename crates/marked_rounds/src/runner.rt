@@ -1,4 +1,4 @@
-//! One race: rounds of workers on the shared words of one question.
+//! This module runs one race: rounds of workers on the shared words of one question.
 
 ghost use Rattle.std.specs.Prelude.{◌≡◌, ℕ, ◌+◌, ◌<◌, ◌≤◌, false, IfOk};
 ghost use Rattle.game_model.specs.Query.{states};
@@ -18,24 +18,25 @@ use std::alloc::Global;
 use std::thread::Threads;
 use value_words::{Pass, Posing, ValueTable, Words};
 
-/// How many edges make one more worker worth its thread.
+/// This many edges make one more worker worth its thread.
 const EDGES_FOR_A_WORKER: u64 = 50_000;
 
-/// The shared words of a question, the pass that has seen them, and the states to update: each other state is quiet.
+/// A runner has the shared words of a question, the pass that has seen them, and the states to update. Each other state
+/// is quiet.
 #[derive(Drop)]
 pub struct Runner<'q, P: Posing> {
     table: ValueTable<'q, P>,
-    /// What was seen of the words.
+    /// This is what was seen of the words.
     pub pass: Pass<P>,
-    /// The states to update.
+    /// These are the states to update.
     pub agenda: Agenda,
-    // How many values changed in the last round; none where no round was made.
+    // This many values changed in the last round. It is none if there was no round.
     changed: Option<u32>,
     ghost of: { IsOf table pass },
     ghost ready: { IsAgenda P.posed agenda (seen_by pass) },
 }
 
-/// The opening words: all states are to be updated.
+/// Opens the words. All states are to be updated.
 pub fn open<'q, P: Posing>(
     alloc: Global,
     question: &'q Question<'q>,
@@ -54,7 +55,7 @@ pub fn open<'q, P: Posing>(
     })
 }
 
-/// One round of at most so many workers, and whether a value changed: where it says that none did, what was read is
+/// Makes one round of at most `workers` workers, and says whether a value changed. If none did, what was read is
 /// settled.
 pub fn one_round<'q, R: Threads + Sync, P: Posing + Send + Sync, G: Gate + Sync>(
     rt: &R,
@@ -89,7 +90,7 @@ pub fn one_round<'q, R: Threads + Sync, P: Posing + Send + Sync, G: Gate + Sync>
     (runner, changed > 0)
 }
 
-/// The closed words: those of a race of as many rounds, settled where what was read is.
+/// Returns the closed words: those of a race of as many rounds. They are settled if what was read is.
 pub fn close<P: Posing>(alloc: Global, runner: Runner<'_, P>) -> Result<Words, OutOfMemory>
     ensures { (r : ℕ) → IsRacing P.posed r runner.entry.pass runner.entry.agenda
         → IfOk result (λ words. IsClosed P.posed words r (read_of runner.entry.agenda)) }
@@ -104,7 +105,7 @@ pub fn close<P: Posing>(alloc: Global, runner: Runner<'_, P>) -> Result<Words, O
     Ok(words)
 }
 
-// One round, and how many values changed in it.
+// Makes one round, and says how many values changed in it.
 fn sweep<R: Threads + Sync, P: Posing + Send + Sync, G: Gate + Sync>(
     rt: &R,
     table: &ValueTable<'_, P>,
@@ -148,8 +149,9 @@ fn sweep<R: Threads + Sync, P: Posing + Send + Sync, G: Gate + Sync>(
     (pass, changed)
 }
 
-/// How many workers a round after the first has: one, and one more for each so many edges of the states that are
-/// updated. These are about as many as edges lead to a changed state, and have about as many edges as others.
+/// Returns how many workers a round after the first has: one, and one more for each `EDGES_FOR_A_WORKER` edges of the
+/// states that are updated. About as many states are updated as edges lead to a changed state, and they have about as
+/// many edges as others.
 pub fn busy_workers(question: &Question<'_>, workers: u32, changed: u32) -> u32
     requires { 1 ≤ workers }
     ensures some { 1 ≤ result }

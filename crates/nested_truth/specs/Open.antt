@@ -1,4 +1,4 @@
--- When the threshold of a formula whose sides are known is left open.
+-- This module says when the threshold of a formula whose sides are known is left open.
 use Rattle.std.specs.Prelude.{◌^◌, ℕ, Bool, List, slice_index}
 use Rattle.game_model.specs.Query.{Query}
 use Rattle.game_model.specs.Values.{denominator, numerator}
@@ -15,16 +15,16 @@ use Rattle.formula_truth.specs.Truth.{question_by, dual_question_by}
 use Rattle.formula_truth.specs.Bands.{Band}
 use Rattle.formula_truth.specs.Runs.{mirrored}
 
--- the threshold of a question is left open at a state by a band, by as many rounded steps as rounds were asked for, and
--- by the values of as many steps, over its zero set
+-- The threshold of a question is left open at a state by a band, by as many rounded steps as rounds were asked for, and
+-- by the values of as many steps, over its zero set.
 pub record IsRunOpen (q : Query) (bound : Bound) (asked : ℕ) (band : Band) (s : ℕ) : Type 0 where
   pub zero : List Bool
   pub is_zero : IsZeroSet q zero
   pub is_open : IsLeftOpen q zero bound asked (slice_index band.lower) (slice_index band.upper) s
 
--- That of a formula with a path of this kind, whose sides hold at these states, is left open at a state: that of its
--- question by a run, with a bound on the steps that of the exact value, and of `G` that of the dual by the mirrored
--- bounds.
+-- The threshold of a formula with a path of this kind, whose sides hold at these states, is left open at a state.
+-- Without a bound on the steps a run leaves it open. With one the exact value does. For `G` the mirrored bounds leave
+-- the threshold of the dual open.
 abbrev pub IsOpenBy : PathKind → Model → Tree → (ℕ → Bool) → (ℕ → Bool) → ℕ → Band → ℕ → Type 0
 IsOpenBy Until m f left right asked band s = IsRunOpen (question_by m f left right) f.bound asked band s
 IsOpenBy (Within k) m f left right asked band s =

@@ -1,4 +1,4 @@
-//! Answers to questions without a bound on the steps: brackets of rounds, or plans of a solver.
+//! This module answers questions without a bound on the steps, by brackets of rounds or by plans of a solver.
 
 ghost use Rattle.std.specs.Prelude.{◌≡◌, ◌≢◌, ◌<◌, All, IfOk, IfSome, length};
 ghost use Rattle.game_model.specs.Query.{states};
@@ -19,9 +19,9 @@ use std::alloc::Global;
 use std::thread::Threads;
 use verdicts::How;
 
-/// The lower bounds of one question and the upper ones of another: one answer, where they are the same. A run of rounds
-/// ends where the bound is settled at all of these states; a solver is asked about those of them where it is not, of
-/// the outermost formula about all.
+/// Finds the lower bounds of one question and the upper ones of another, by one answer if the questions are the same. A
+/// run of rounds ends when the bound is settled at all of these states. A solver is asked about those of them where it
+/// is not settled, and for the outermost formula about all.
 pub fn answer_both<R: Threads + Sync, G: Gate + Sync>(
     rt: &R,
     alloc: Global,
@@ -60,7 +60,7 @@ pub fn answer_both<R: Threads + Sync, G: Gate + Sync>(
     }
 }
 
-// The answer to one question.
+// Answers one question.
 fn answer_one<R: Threads + Sync, G: Gate + Sync>(
     rt: &R,
     alloc: Global,
@@ -115,7 +115,7 @@ fn answer_one<R: Threads + Sync, G: Gate + Sync>(
     }
 }
 
-// The bound that has to be settled at a state so that nothing more is asked about it.
+// Returns the bound that has to be settled at a state so that nothing more is asked about it.
 fn left_open(bound: Bound, is_inside: bool) -> Bound {
     if is_inside { bound } else { Bound::AskMax }
 }

@@ -1,4 +1,4 @@
-//! Bounds that are found.
+//! This module has the bounds that are found.
 
 ghost use Rattle.std.specs.Prelude.{◌≡◌, IfOk};
 ghost use Rattle.bracket_engine.specs.Bracket.{complements_of};
@@ -8,8 +8,8 @@ use game_outside::OutOfMemory;
 use std::alloc::{AllocError, Global};
 use verdicts::How;
 
-/// A lower and an upper bound for each state, in units, and where the lower ones come from; where they are mirrored,
-/// the upper ones.
+/// Each state has a lower and an upper bound, in units. `how` says where the lower ones come from, and after they are
+/// mirrored, where the upper ones do.
 #[derive(Drop)]
 pub struct Bounds {
     pub lower: Vec<u64>,
@@ -21,7 +21,7 @@ impl Bounds {
     ghost use Rattle.formula_truth.specs.Runs.{mirrored};
     ghost use Rattle.nested_truth.specs.Seen.{band_in};
 
-    /// 1 less the bounds: those of what does not happen.
+    /// Returns 1 less the bounds, which bound the probability of the opposite.
     pub fn mirrored(&self, alloc: Global) -> Result<Bounds, OutOfMemory>
         ensures band { IfOk result (λ bounds. band_in bounds ≡ mirrored (band_in self.now)) }
         ensures how { IfOk result (λ bounds. bounds.how ≡ self.now.how) }
@@ -34,7 +34,7 @@ impl Bounds {
     }
 }
 
-// The unit less each value.
+// Returns the unit less each value.
 fn complements(alloc: Global, values: &[u64]) -> Result<Vec<u64>, AllocError>
     ensures { IfOk result (λ complements. complements.items ≡ complements_of values.now) }
 {

@@ -1,4 +1,4 @@
-//! What bounds say of a formula inside.
+//! This module says what bounds say of a formula inside.
 
 ghost use Rattle.std.specs.Prelude.{◌≡◌, IfOk, length};
 ghost use Rattle.formula_truth.specs.Bands.{judgement, undecided_at};
@@ -10,13 +10,13 @@ use formula_reader::Bound;
 use std::alloc::{AllocError, Global};
 use verdicts::settle;
 
-/// What is known of a state formula, and what was left open inside it.
+/// This is what is known of a state formula, and what was left open inside it.
 #[derive(Drop)]
 pub struct Judged {
     pub sets: KnownSets,
-    /// How many formulas stand inside, at any depth.
+    /// This is the number of formulas inside, at any depth.
     pub inner: u32,
-    /// How many pairs of one of them and a state are left undecided.
+    /// This is the number of pairs of one of them and a state that are left undecided.
     pub undecided: u32,
 }
 
@@ -27,7 +27,7 @@ impl Judged {
     ghost use Rattle.formula_truth.specs.declared.way.Way.{Way};
     ghost use Rattle.nested_truth.specs.Seen.{IsJudged};
 
-    /// What is known of `!x`.
+    /// Returns what is known of `!x`.
     pub fn negated(self) -> Judged
         ensures { (m : Model) (way : Way) (x : State) → IsJudged m way x self → IsJudged m way (Not x) result }
     {
@@ -38,7 +38,7 @@ impl Judged {
         }
     }
 
-    /// What is known of `x & y`.
+    /// Returns what is known of `x & y`.
     pub fn both(self, other: Judged) -> Judged
         requires states { length other.sets.sure.items ≡ length self.sets.sure.items }
         requires inner { self.inner + other.inner < 2 ^ 32 }
@@ -53,7 +53,7 @@ impl Judged {
         }
     }
 
-    /// What is known of `x | y`.
+    /// Returns what is known of `x | y`.
     pub fn either(self, other: Judged) -> Judged
         requires states { length other.sets.sure.items ≡ length self.sets.sure.items }
         requires inner { self.inner + other.inner < 2 ^ 32 }
@@ -68,7 +68,7 @@ impl Judged {
         }
     }
 
-    /// What is known of `x => y`.
+    /// Returns what is known of `x => y`.
     pub fn implied(self, other: Judged) -> Judged
         requires states { length other.sets.sure.items ≡ length self.sets.sure.items }
         requires inner { self.inner + other.inner < 2 ^ 32 }
@@ -84,8 +84,8 @@ impl Judged {
     }
 }
 
-/// Where a bound surely holds and where it possibly does, by bounds of the value at each of so many states; and at how
-/// many of them these leave it undecided.
+/// Returns where a bound surely holds and where it possibly does, from bounds of the value at each of this many states.
+/// It also returns at how many of them these bounds leave it undecided.
 pub fn judged_by(
     alloc: Global,
     bound: &Bound,

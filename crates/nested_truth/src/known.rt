@@ -1,4 +1,4 @@
-//! What is known of a state formula.
+//! This module has what is known of a state formula.
 
 ghost use Rattle.std.specs.Prelude.{◌≡◌, ◌↔◌, length, true, IfOk};
 ghost use Rattle.label_lines.specs.Labels.{holds_at};
@@ -8,12 +8,12 @@ use game_outside::Name;
 use label_reader::Labels;
 use std::alloc::{AllocError, Global};
 
-/// Where a state formula surely holds, and where it possibly does: two marks for each state.
+/// Two marks for each state say whether a state formula surely holds there, and whether it possibly does.
 #[derive(Drop)]
 pub struct KnownSets {
-    /// Where it surely holds.
+    /// It surely holds at these states.
     pub sure: Vec<bool>,
-    /// Where it possibly holds.
+    /// It possibly holds at these states.
     pub possible: Vec<bool>,
     ghost even: { length possible.items ≡ length sure.items },
 }
@@ -22,7 +22,7 @@ impl KnownSets {
     ghost use Rattle.formula_truth.specs.Bands.{exactly, negated, both, either};
     ghost use Rattle.nested_truth.specs.Seen.{AreAlike, seen};
 
-    /// It is known to hold at all of so many states, or at none.
+    /// Says that a formula holds at all of this many states, or at none.
     pub fn same_at_all(alloc: Global, holds: bool, states: u32) -> Result<KnownSets, AllocError>
         ensures states { IfOk result (λ sets. length sets.sure.items ≡ states) }
         ensures known { IfOk result (λ sets. AreAlike states (exactly (λ s. holds)) (seen sets)) }
@@ -32,7 +32,7 @@ impl KnownSets {
         Ok(KnownSets { sure, possible })
     }
 
-    /// It is known to hold where the label with this name does.
+    /// Says that a formula holds where the label with this name does.
     pub fn of_label(
         alloc: Global,
         labels: &Labels,
@@ -48,7 +48,7 @@ impl KnownSets {
         Ok(KnownSets { sure, possible })
     }
 
-    /// The negation.
+    /// Returns what is known of the negation.
     pub fn negated(self) -> KnownSets
         ensures states { length result.sure.items ≡ length self.sure.items }
         ensures known { AreAlike (length self.sure.items) (negated (seen self)) (seen result) }
@@ -65,7 +65,7 @@ impl KnownSets {
         }
     }
 
-    /// Both hold.
+    /// Returns what is known of both together.
     pub fn both(self, other: &KnownSets) -> KnownSets
         requires { length other.now.sure.items ≡ length self.sure.items }
         ensures states { length result.sure.items ≡ length self.sure.items }
@@ -80,7 +80,7 @@ impl KnownSets {
         KnownSets { sure, possible }
     }
 
-    /// One of them holds.
+    /// Returns what is known of one or the other.
     pub fn either(self, other: &KnownSets) -> KnownSets
         requires { length other.now.sure.items ≡ length self.sure.items }
         ensures states { length result.sure.items ≡ length self.sure.items }
@@ -96,7 +96,7 @@ impl KnownSets {
     }
 }
 
-/// Whether two lists of marks are the same.
+/// Returns whether two lists of marks are the same.
 pub fn are_equal(one: &[bool], other: &[bool]) -> bool
     ensures { (result ≡ true) ↔ (one.now ≡ other.now) }
 {

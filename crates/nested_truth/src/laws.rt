@@ -1,4 +1,4 @@
-//! The law of what is decided. The function does nothing: its contract is the law.
+//! This module has the law of what is decided. The function does nothing: its contract is the law.
 
 ghost use Rattle.std.specs.Prelude.{◌≡◌, ◌<◌, ℕ};
 ghost use Rattle.game_model.specs.Game.{IsGame};
@@ -10,8 +10,8 @@ ghost use Rattle.formula_truth.specs.Truth.{IsTruth, Valuation, holds, states};
 ghost use Rattle.formula_truth.specs.Bands.{Bands, surely, possibly, undecided_in};
 ghost use Rattle.formula_truth.specs.Runs.{AreFound};
 
-/// Where no pair of a formula inside a state formula and a state is undecided, the bounds of the formulas inside say
-/// what is true: the state formula surely holds exactly where it holds in the truth, and possibly holds exactly there.
+/// If no pair of a state and a formula inside a state formula is undecided, the bounds of the formulas inside say what
+/// is true. The state formula surely holds exactly where it holds in the truth, and it possibly holds exactly there.
 pub fn what_is_decided_is_the_truth()
     ensures sure { (m : Model) (truth : Valuation) (way : Way) (x : State) (found : Bands x) → IsGame m.game
         → IsTruth m truth → HasParts x → AreFound m way x found → undecided_in x found (states m) ≡ 0

@@ -1,4 +1,4 @@
-//! The bounds of a formula whose sides are known in part.
+//! This module finds the bounds of a formula whose sides are known in part.
 
 ghost use Rattle.std.specs.Prelude.{◌≡◌, ◌<◌, All, IfOk, length};
 ghost use Rattle.formula_reader.specs.Formula.{state_of, tree_of};
@@ -19,8 +19,8 @@ use rpatl_syntax::dual;
 use std::alloc::Global;
 use std::thread::Threads;
 
-/// The bounds of a formula, from what is known of its sides. A run of rounds ends where the threshold is settled at all
-/// of the states from which it starts.
+/// Finds the bounds of a formula from what is known of its sides. A run of rounds ends when the threshold is settled at
+/// all states of `starts`.
 pub fn bounds_of<R: Threads + Sync, G: Gate + Sync>(
     rt: &R,
     alloc: Global,
@@ -54,7 +54,7 @@ pub fn bounds_of<R: Threads + Sync, G: Gate + Sync>(
     }
 }
 
-// The bounds of a formula without a bound on the steps.
+// Finds the bounds of a formula without a bound on the steps.
 fn reached<R: Threads + Sync, G: Gate + Sync>(
     rt: &R,
     alloc: Global,
@@ -86,7 +86,7 @@ fn reached<R: Threads + Sync, G: Gate + Sync>(
     )
 }
 
-// The bounds of a formula with `G`: 1 less those of its dual.
+// Finds the bounds of a formula with `G`, which are 1 less those of its dual.
 fn always<R: Threads + Sync, G: Gate + Sync>(
     rt: &R,
     alloc: Global,

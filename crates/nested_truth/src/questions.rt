@@ -1,4 +1,4 @@
-//! The two questions of a formula whose sides are known in part.
+//! This module has the two questions of a formula whose sides are known in part.
 
 ghost use Rattle.std.specs.Prelude.{◌≡◌, ◌≢◌, ◌<◌, ◌&&◌, ◌↔◌, ℕ, not, length, slice_index_or, true, false, IfOk, IfSome};
 ghost use Rattle.game_model.specs.Query.{states};
@@ -13,12 +13,12 @@ use game_model::Question;
 use game_outside::OutOfMemory;
 use std::alloc::{AllocError, Global};
 
-/// The question of the sure states, and that of the possible ones where it is another.
+/// One question is that of the sure states, and the other that of the possible states.
 #[derive(Drop)]
 pub struct Questions<'g> {
-    /// The question of the sure states.
+    /// This is the question of the sure states.
     pub low: Question<'g>,
-    /// The question of the possible states, where it is another.
+    /// This is the question of the possible states, if it is another.
     pub high: Option<Question<'g>>,
 }
 
@@ -26,7 +26,7 @@ impl<'g> Questions<'g> {
     ghost use Rattle.formula_truth.specs.Runs.{pessimistic, optimistic};
     ghost use Rattle.nested_truth.specs.Seen.{high_or, model_of, seen};
 
-    /// The questions of a formula, from what is known of its sides.
+    /// Makes the questions of a formula from what is known of its sides.
     pub fn of_formula(
         alloc: Global,
         setting: Setting<'g>,
@@ -57,14 +57,14 @@ impl<'g> Questions<'g> {
     }
 }
 
-// Whether the goals of two questions are the same, and their dead states.
+// Returns whether two questions have the same goals and the same dead states.
 fn are_same(goals: &[bool], others: &[bool], deads: &[bool], other_deads: &[bool]) -> bool
     ensures { (result ≡ true) ↔ ((goals.now ≡ others.now) × (deads.now ≡ other_deads.now)) }
 {
     are_equal(goals, others) && are_equal(deads, other_deads)
 }
 
-// Where neither side holds: the dead states.
+// Returns the dead states, where neither side holds.
 fn deads_of(alloc: Global, left: &[bool], right: &[bool]) -> Result<Vec<bool>, AllocError>
     requires { length left.now ≡ length right.now }
     ensures { IfOk result (λ v. v.items ≡ at_states (λ s. not (slice_index_or right.now s false)
@@ -83,7 +83,7 @@ fn neither(one: bool, other: bool) -> bool
     !one && !other
 }
 
-// The question of a formula with these goals and dead states.
+// Makes the question of a formula with these goals and dead states.
 fn question_in<'g>(
     alloc: Global,
     setting: Setting<'g>,
@@ -102,7 +102,7 @@ fn question_in<'g>(
     Ok(Question::build(setting.game, sides, goals, deads))
 }
 
-/// The question of a formula with `X`: it has no marks.
+/// Makes the question of a formula with `X`, which has no marks.
 pub fn next_question<'g>(
     alloc: Global,
     setting: Setting<'g>,

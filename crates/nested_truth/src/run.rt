@@ -1,4 +1,4 @@
-//! The run of a formula with formulas inside.
+//! This module runs a formula with formulas inside.
 
 ghost use Rattle.std.specs.Prelude.{◌≡◌, ◌<◌, ◌≤◌, All, IfOk, length};
 ghost use Rattle.std.specs.List.{range_with_len};
@@ -28,9 +28,9 @@ use predecessors::Predecessors;
 use std::alloc::{AllocError, Global};
 use std::thread::Threads;
 
-/// The bounds of a formula about a game whose states have these labels and owners, or the first reason why it poses no
-/// question. Questions without a bound on the steps are answered in this way. A run of rounds ends early where its
-/// threshold is settled: that of a formula inside at every state, that of the outermost formula at the initial states.
+/// Returns the bounds of a formula about a game whose states have these labels and owners, or the first reason why it
+/// poses no question. `way` says how questions without a bound on the steps are answered. A run of rounds ends early if
+/// its threshold is settled, for a formula inside at every state, and for the outermost formula at the initial states.
 pub fn nested<R: Threads + Sync, G: Gate + Sync>(
     rt: &R,
     alloc: Global,
@@ -69,7 +69,7 @@ pub fn nested<R: Threads + Sync, G: Gate + Sync>(
     }
 }
 
-// The answer, with these initial states.
+// Finds the answer with these initial states.
 fn answer<R: Threads + Sync, G: Gate + Sync>(
     rt: &R,
     alloc: Global,
@@ -110,7 +110,7 @@ fn answer<R: Threads + Sync, G: Gate + Sync>(
     answer_in(rt, alloc, setting, formula, initial, gate)
 }
 
-// The answer, from the answers to both sides.
+// Finds the answer from the answers to both sides.
 fn answer_in<R: Threads + Sync, G: Gate + Sync>(
     rt: &R,
     alloc: Global,
@@ -145,7 +145,7 @@ fn answer_in<R: Threads + Sync, G: Gate + Sync>(
     })
 }
 
-// Every state, rising.
+// Lists every state, in rising order.
 fn every_state(alloc: Global, states: u32) -> Result<Vec<u32>, AllocError>
     ensures { IfOk result (λ v. v.items ≡ range_with_len 0 states) }
 {

@@ -1,4 +1,4 @@
-//! What the runs of a formula have in common.
+//! This module has what the runs of a formula have in common.
 
 ghost use Rattle.std.specs.Prelude.{◌≡◌, ◌≤◌, length};
 ghost use Rattle.std.specs.List.{range_with_len};
@@ -13,19 +13,19 @@ use game_model::Game;
 use label_reader::{Labels, Owners};
 use predecessors::Predecessors;
 
-/// A game with labels and owners, and how it is run.
+/// A setting is a game with labels and owners, and says how the game is run.
 #[derive(Clone, Copy)]
 pub struct Setting<'a> {
     pub game: &'a Game,
     pub labels: &'a Labels,
     pub owners: &'a Owners,
-    /// For each state the choices that lead to it.
+    /// This has for each state the choices that lead to it.
     pub predecessors: &'a Predecessors,
-    /// Every state, rising.
+    /// These are all states, in rising order.
     pub everywhere: &'a [u32],
-    /// How questions without a bound on the steps are answered.
+    /// Questions without a bound on the steps are answered in this way.
     pub way: Way,
-    /// The most workers of a round or a step.
+    /// A round or a step has at most this many workers.
     pub workers: u32,
     ghost is_game: { IsGame game.now },
     ghost lists: { ArePredecessors game.now predecessors.now },

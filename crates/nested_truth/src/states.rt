@@ -1,4 +1,4 @@
-//! What is known of state formulas, from bounds of the formulas inside.
+//! This module finds what is known of state formulas from bounds of the formulas inside.
 
 ghost use Rattle.std.specs.Prelude.{◌≤◌, IfOk, if◌then◌else◌};
 ghost use Rattle.formula_reader.specs.Formula.{True, False, Label, formulas_in, inner_of, state_of, tree_of};
@@ -15,7 +15,7 @@ use game_outside::{Gate, Name, OutOfMemory};
 use std::alloc::Global;
 use std::thread::Threads;
 
-/// What is known of a state formula. Each formula inside is answered first, at every state.
+/// Finds what is known of a state formula. Each formula inside is answered first, at every state.
 #[cycle(judged)]
 pub fn judge<R: Threads + Sync, G: Gate + Sync>(
     rt: &R,
@@ -52,7 +52,7 @@ pub fn judge<R: Threads + Sync, G: Gate + Sync>(
     }
 }
 
-// What is known of a formula inside: what its bounds say at every state.
+// Finds what is known of a formula inside from its bounds at every state.
 #[cycle(judged)]
 fn judge_inside<R: Threads + Sync, G: Gate + Sync>(
     rt: &R,
@@ -81,7 +81,7 @@ fn judge_inside<R: Threads + Sync, G: Gate + Sync>(
     })
 }
 
-// `true` and `false`: known at every state.
+// Says that `true` or `false` is known at every state.
 fn same_at_all(alloc: Global, setting: Setting<'_>, holds: bool) -> Result<Judged, OutOfMemory>
     ensures { IfOk result (IsJudged (model_of setting.entry) setting.entry.way (if holds then True else False)) }
 {
@@ -92,7 +92,7 @@ fn same_at_all(alloc: Global, setting: Setting<'_>, holds: bool) -> Result<Judge
     })
 }
 
-// A label: known at every state.
+// Says that a label is known at every state.
 fn labelled(alloc: Global, setting: Setting<'_>, name: &Name) -> Result<Judged, OutOfMemory>
     ensures { IfOk result (IsJudged (model_of setting.entry) setting.entry.way (Label name.now)) }
 {

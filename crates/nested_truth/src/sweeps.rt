@@ -1,4 +1,4 @@
-//! Runs of so many steps.
+//! This module runs a given number of steps.
 
 ghost use Rattle.std.specs.Prelude.{◌≡◌, ◌≤◌, All, IfOk, length, false, slice_index_or};
 ghost use Rattle.game_model.specs.Limits.{unit};
@@ -24,8 +24,8 @@ use std::alloc::Global;
 use std::thread::Threads;
 use verdicts::How;
 
-/// The bounds after exactly so many steps: the lower ones of one question, the upper ones of another; one run, where
-/// they are the same.
+/// Finds the bounds after exactly this many steps: the lower ones of one question, and the upper ones of another. One
+/// run finds both if the questions are the same.
 pub fn sweep<R: Threads + Sync, G: Gate + Sync>(
     rt: &R,
     alloc: Global,
@@ -54,7 +54,8 @@ pub fn sweep<R: Threads + Sync, G: Gate + Sync>(
     }
 }
 
-/// The bounds of a formula with `X`: one step from the sure states of its right side, and one from the possible ones.
+/// Finds the bounds of a formula with `X`, by one step from the sure states of its right side, and one from the
+/// possible ones.
 pub fn next_sweep<R: Threads + Sync, G: Gate + Sync>(
     rt: &R,
     alloc: Global,
@@ -80,7 +81,7 @@ pub fn next_sweep<R: Threads + Sync, G: Gate + Sync>(
     Ok(Bounds { lower, upper, how })
 }
 
-// One step from the unit at the marked states, and 0 elsewhere.
+// Takes one step from the unit at the marked states and 0 elsewhere.
 fn next_step<R: Threads + Sync, G: Gate + Sync>(
     rt: &R,
     alloc: Global,

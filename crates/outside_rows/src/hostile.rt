@@ -1,4 +1,4 @@
-//! Rows over texts that are refused, hostile or cut.
+//! These rows are over texts that are refused, hostile or cut.
 
 mod audit_faults;
 mod cuts;
@@ -10,7 +10,7 @@ use game_outside::HeldFile;
 use std::alloc::Global;
 use std::test::Fail;
 
-// These files, with one in front: of two files of one name the first counts.
+// Puts one file in front of the others, because the first of two files with the same name counts.
 fn with_file(alloc: Global, front: HeldFile, others: Vec<HeldFile>) -> Result<Vec<HeldFile>, Fail> {
     let mut held = Vec::new(alloc);
     held.push(front)?;

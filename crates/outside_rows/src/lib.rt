@@ -1,5 +1,6 @@
-//! Tests of `run` with an outside that fails, is late or comes in pieces, of how workers pass its gate, and over texts
-//! that are refused, hostile or cut. Some of this calls readers, or the real files and the real writer, without `run`.
+//! These are the tests of `run` with an outside that fails, is late or comes in pieces, of how workers pass its gate,
+//! and over texts that are refused, hostile or cut. Some of them call readers, or the real files and the real writer,
+//! without `run`.
 #![tactic(auto)]
 
 #[cfg(test)]

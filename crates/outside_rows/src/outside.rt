@@ -1,4 +1,4 @@
-//! An outside that fails, is late or comes in pieces, and how workers pass its gate.
+//! The outside fails, is late or comes in pieces, and workers pass its gate.
 
 mod adapters;
 mod all_workers;

@@ -1,4 +1,4 @@
-//! The states from which a goal can be reached, by their distance, and a choice of each that leads there.
+//! This module lists the states of positive value by their distance to a goal, with a choice of each that leads there.
 
 ghost use Rattle.std.specs.Prelude.{◌≡◌, ◌<◌, length, vec_len};
 ghost use Rattle.game_model.specs.Query.{states};
@@ -8,29 +8,30 @@ use game_outside::OutOfMemory;
 use predecessors::{Move, Predecessors};
 use std::alloc::Global;
 
-/// No choice.
+/// This number means no choice.
 pub const NONE: u32 = u32::MAX;
 
-/// What a state of the maximiser waits for: any choice.
+/// This number means that a state of the maximiser waits for any choice.
 const ANY: u32 = u32::MAX;
 
-/// What grows backward from the goals.
+/// The states of positive value join backward from the goals.
 #[derive(Drop)]
 pub struct Approach {
-    /// The states, the nearest to a goal first.
+    /// These are the states, the nearest to a goal first.
     pub order: Vec<u32>,
-    /// For each state the choice by which it joined, or `NONE`.
+    /// Each state joined by this choice, or has `NONE`.
     pub toward: Vec<u32>,
-    /// For each state how many more choices must lead on before it joins, or `ANY`; 0 where it joined, or is dead.
+    /// This many more choices of a state must lead on before it joins, or `ANY`. It is 0 if the state joined or is
+    /// dead.
     awaited: Vec<u32>,
-    /// For each choice whether it is one of the minimiser that leads on.
+    /// A choice is marked if it is one of the minimiser that leads on.
     followed: Vec<bool>,
     ghost as_many: { vec_len awaited ≡ vec_len toward },
 }
 
 impl Approach {
-    /// The states of positive value in the order in which they join: one of the maximiser by its first choice that
-    /// leads on, one of the minimiser when all its choices do. The only error is want of memory.
+    /// Finds the states of positive value in the order in which they join. A state of the maximiser joins by its first
+    /// choice that leads on, and one of the minimiser when all its choices do. The only error is that memory ran out.
     pub(crate) fn of_question(
         alloc: Global,
         question: &Question,
@@ -53,7 +54,7 @@ impl Approach {
         Ok(approach)
     }
 
-    /// The goals alone.
+    /// Starts with only the goals.
     fn of_goals(alloc: Global, question: &Question) -> Result<Approach, OutOfMemory> {
         let states = question.game().states();
         let mut order = Vec::with_capacity(alloc, states as usize)?;
@@ -77,7 +78,7 @@ impl Approach {
         })
     }
 
-    /// Follows a choice that leads to a state that joined. Its own state joins where it waits for no other.
+    /// Follows a choice that leads to a state that joined. Its own state joins if it waits for no other choice.
     fn follow(&mut self, question: &Question, step: Move) -> Result<(), OutOfMemory> {
         let state = step.state as usize;
         if state >= self.awaited.len() {
@@ -93,7 +94,7 @@ impl Approach {
         Ok(())
     }
 
-    /// The state of a choice joins by it.
+    /// Lets the state of a choice join by it.
     fn join(&mut self, step: Move) -> Result<(), OutOfMemory>
         requires { step.state < vec_len self.old.awaited }
     {
@@ -103,7 +104,8 @@ impl Approach {
         Ok(())
     }
 
-    /// Notes that a choice of the minimiser leads on, where its state waits for so many. Whether it was the last one.
+    /// Notes that a choice of the minimiser leads on, when its state waits for this many. Returns whether it was the
+    /// last one.
     fn is_last(&mut self, question: &Question, step: Move, left: u32) -> bool
         requires { step.state < vec_len self.old.awaited }
         ensures { vec_len self.new.awaited ≡ vec_len self.old.awaited }

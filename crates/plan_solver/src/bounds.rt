@@ -1,4 +1,4 @@
-//! The bounds of a question, component by component.
+//! This module finds the bounds of a question, component by component.
 
 ghost use Rattle.std.specs.Prelude.{◌≡◌, ◌+◌, ◌<◌, IfOk, length};
 ghost use Rattle.game_model.specs.Query.{states};
@@ -20,12 +20,12 @@ use std::alloc::Global;
 use std::num::nearest_u64_to_f64;
 use table_rounding::UnitTable;
 
-/// The most times that upper tables are found, each over better replies.
+/// Upper tables are found at most this many times, each over better replies.
 const TURNS: u32 = 6;
 
-/// What a solver takes for lower and upper bounds of a question, over the predecessors in its game, where the states of
-/// value 1 and those of value 0 are known. Where these are all states, the tables are empty. Values to begin with, one
-/// for each state, are hints alone: upper values begin with them. The only error is want of memory.
+/// Finds what a solver takes for lower and upper bounds of a question, over the predecessors in its game, when the
+/// states of value 1 and those of value 0 are known. If these are all states, the tables are empty. Values to begin
+/// with, one for each state, are only hints: upper values begin with them. The only error is that memory ran out.
 pub fn find_bounds(
     alloc: Global,
     question: &Question,
@@ -73,7 +73,7 @@ pub fn find_bounds(
     })
 }
 
-/// Whether some value is neither 1 nor 0.
+/// Returns whether some value is neither 1 nor 0.
 fn has_open(question: &Question, sure: &Marks, zero: &Marks) -> bool
     requires sure { length sure.now ≡ states question.now }
     requires zero { length zero.now ≡ states question.now }
@@ -86,7 +86,7 @@ fn has_open(question: &Question, sure: &Marks, zero: &Marks) -> bool
     false
 }
 
-/// The unit where the value is 1, else 0.
+/// Returns the table with the unit where the value is 1, and 0 elsewhere.
 fn known_table(alloc: Global, question: &Question, sure: &Marks) -> Result<UnitTable, OutOfMemory>
     requires { length sure.now ≡ states question.now }
     ensures { IfOk result (λ t. length t ≡ states question.now) }
@@ -100,7 +100,8 @@ fn known_table(alloc: Global, question: &Question, sure: &Marks) -> Result<UnitT
     Ok(table)
 }
 
-/// The lower table, the maximiser's choices that it goes by, and the values that it was rounded from, in units.
+/// The lower table comes with the maximiser's choices that it goes by, and with the values that it was rounded from, in
+/// units.
 #[derive(Drop)]
 struct Lower {
     table: UnitTable,
@@ -108,7 +109,7 @@ struct Lower {
     values: Vec<f64>,
 }
 
-/// The lower table, and the minimiser's best replies to it.
+/// Finds the lower table, and the minimiser's best replies to it.
 fn lower_bounds(
     alloc: Global,
     frame: &Frame<'_, '_>,
@@ -144,7 +145,7 @@ fn lower_bounds(
     })
 }
 
-/// The upper table: over the replies, and once more from the first component where these can be improved.
+/// Finds the upper table over the replies, and again from the first component where these can be improved.
 fn upper_table(
     alloc: Global,
     frame: &Frame<'_, '_>,
@@ -170,7 +171,7 @@ fn upper_table(
     Ok(table)
 }
 
-/// The entries of a table as values.
+/// Returns the entries of a table as values.
 fn shown_values(alloc: Global, table: &UnitTable) -> Result<Vec<f64>, OutOfMemory> {
     let mut values = Vec::with_capacity(alloc, table.entries().len())?;
     for entry in table.entries() {
@@ -179,7 +180,7 @@ fn shown_values(alloc: Global, table: &UnitTable) -> Result<Vec<f64>, OutOfMemor
     Ok(values)
 }
 
-/// Upper entries of all components from this one on, over these replies, and values to compare replies by.
+/// Finds upper entries of all components from this one on, over these replies, and values to compare replies by.
 fn upper_turn(
     alloc: Global,
     frame: &Frame<'_, '_>,
@@ -214,7 +215,7 @@ fn upper_turn(
     Ok(())
 }
 
-/// Whether the states of a component have values that are neither 1 nor 0.
+/// Returns whether the states of a component have values that are neither 1 nor 0.
 fn is_open_component(frame: &Frame<'_, '_>, component: u32) -> bool
     requires { component + 1 < length frame.now.components.now.starts }
 {
@@ -225,7 +226,8 @@ fn is_open_component(frame: &Frame<'_, '_>, component: u32) -> bool
     }
 }
 
-/// The values with which upper ones begin, in units: the hints, or else those of the lower table, where these are more.
+/// Returns the values with which upper ones begin, in units. Each is the hint, or the value of the lower table if this
+/// is greater.
 fn first_values(mut values: Vec<f64>, hints: Option<&[f64]>) -> Vec<f64> {
     let Some(hints) = hints else {
         return values;

@@ -1,4 +1,4 @@
-//! The edges of local games.
+//! This module adds the edges of local games.
 
 ghost use Rattle.std.specs.Prelude.{◌≡◌, ◌<◌, length};
 
@@ -10,7 +10,7 @@ use game_outside::OutOfMemory;
 use std::alloc::Global;
 use std::num::nearest_u64_to_f64;
 
-/// An empty local game, with room for the choices and edges of so many states.
+/// Returns an empty local game with room for the choices and edges of these states.
 pub(crate) fn draft_of(
     alloc: Global,
     question: &Question,
@@ -29,8 +29,8 @@ pub(crate) fn draft_of(
     Draft::new(alloc, members.len(), choices as usize, edges as usize)
 }
 
-/// Adds the edges of a choice: to the node of a state, or out of the local game with the entry of a state that has
-/// none.
+/// Adds the edges of a choice. An edge leads to the node of a state, or out of the local game with the entry of a state
+/// that has none.
 pub(crate) fn add_edges(
     row: &Row<'_>,
     choice: u32,

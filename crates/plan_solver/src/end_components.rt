@@ -1,4 +1,4 @@
-//! The end components that are left to the maximiser where the minimiser plays its replies.
+//! This module finds the end components that are left to the maximiser when the minimiser plays its replies.
 
 ghost use Rattle.std.specs.Prelude.{◌≡◌, ◌<◌, IfOk, length, vec_len};
 ghost use Rattle.game_model.specs.Game.{choices_of};
@@ -15,17 +15,17 @@ use predecessors::ChoiceFlags;
 use std::alloc::Global;
 use trap_sets::{TrapSets, traps_over};
 
-/// The states of each end component, in a row.
+/// The states of each end component are linked in a row.
 #[derive(Drop)]
 pub struct EndComponents {
-    /// For each state the first one of its end component; empty where every state is alone.
+    /// This is the first state of each state's end component. The list is empty if no state shares an end component.
     leads: Vec<u32>,
-    /// For each state the next one of its end component, or `NONE`.
+    /// This is the next state of each state's end component, or `NONE`.
     nexts: Vec<u32>,
 }
 
 impl EndComponents {
-    /// Every state alone.
+    /// Says that no state shares an end component.
     fn alone(alloc: Global) -> EndComponents {
         EndComponents {
             leads: Vec::new(alloc),
@@ -33,7 +33,7 @@ impl EndComponents {
         }
     }
 
-    /// The states of each trap, in this order, and behind them those that it lacks by their numbers.
+    /// Links the states of each trap in this order, and behind them those that the order lacks by their numbers.
     fn of_traps(
         alloc: Global,
         traps: &TrapSets,
@@ -73,22 +73,22 @@ impl EndComponents {
         note(&mut self.leads, state, lead);
     }
 
-    /// Whether every state is known to be alone.
+    /// Returns whether it is known that no state shares an end component.
     pub(crate) fn are_alone(&self) -> bool {
         self.leads.is_empty()
     }
 
-    /// The first state of a state's end component.
+    /// Returns the first state of a state's end component.
     pub(crate) fn lead_of(&self, state: u32) -> u32 {
         self.leads.get(state as usize).copied().unwrap_or(state)
     }
 
-    /// The next state of a state's end component, or `NONE`.
+    /// Returns the next state of a state's end component, or `NONE`.
     pub(crate) fn next_of(&self, state: u32) -> u32 {
         self.nexts.get(state as usize).copied().unwrap_or(NONE)
     }
 
-    /// Whether a choice stays in the end component of its state.
+    /// Returns whether a choice stays in the end component of its state.
     pub(crate) fn hold(&self, question: &Question, state: u32, choice: u32) -> bool
         requires state { state < states question.now }
         requires choice { choice < length (choices_of question.now.game state) }
@@ -105,8 +105,9 @@ impl EndComponents {
     }
 }
 
-/// The end components of the open states where the minimiser plays its replies: the traps of the question in which all
-/// others are dead. Mostly no choice can stay for ever, and nothing is searched. The only error is want of memory.
+/// Finds the end components of the open states when the minimiser plays its replies: the traps of the question in which
+/// all others are dead. Mostly no choice can stay for ever, and nothing is searched. The only error is that memory ran
+/// out.
 pub(crate) fn find_end_components(
     alloc: Global,
     frame: &Frame<'_, '_>,
@@ -126,7 +127,7 @@ pub(crate) fn find_end_components(
     EndComponents::of_traps(alloc, &traps, &frame.approach.order)
 }
 
-/// The question without goals in which each state is dead whose value is 1 or 0.
+/// Makes the question without goals in which each state of value 1 or 0 is dead.
 fn open_question<'q>(alloc: Global, frame: &Frame<'_, 'q>) -> Result<Question<'q>, OutOfMemory>
     ensures { IfOk result (λ posed. posed.game ≡ frame.now.question.now.game) }
 {
@@ -142,7 +143,7 @@ fn open_question<'q>(alloc: Global, frame: &Frame<'_, 'q>) -> Result<Question<'q
     Ok(Question::build(frame.question.game(), sides, goals, closed))
 }
 
-/// The replies, as those of a plan.
+/// Returns the replies as those of a plan.
 fn played(alloc: Global, replies: &[u32]) -> Result<Vec<Option<u32>>, OutOfMemory>
     ensures { IfOk result (λ list. vec_len list ≡ length replies.now) }
 {
@@ -153,8 +154,8 @@ fn played(alloc: Global, replies: &[u32]) -> Result<Vec<Option<u32>>, OutOfMemor
     Ok(list)
 }
 
-/// Whether the maximiser has more than one choice at a state whose value is neither 1 nor 0. Without that nobody can
-/// stay in a component for ever, since all its values would be 0.
+/// Returns whether the maximiser has more than one choice at a state whose value is neither 1 nor 0. Otherwise nobody
+/// can stay in a component for ever, because all its values would be 0.
 fn has_free_choice(frame: &Frame<'_, '_>) -> bool {
     for state in 0..frame.question.game().states() {
         if is_open(frame.sure, frame.zero, state)
@@ -167,7 +168,7 @@ fn has_free_choice(frame: &Frame<'_, '_>) -> bool {
     false
 }
 
-/// The components of the states whose value is neither 1 nor 0; each other state is one of its own.
+/// Finds the components of the states whose value is neither 1 nor 0. Each other state is one of its own.
 pub(crate) fn open_components(
     alloc: Global,
     question: &Question,

@@ -1,4 +1,4 @@
-//! What stays the same from component to component.
+//! This module has what stays the same from component to component.
 
 ghost use Rattle.std.specs.Prelude.{◌≡◌, ◌<◌, length};
 ghost use Rattle.game_model.specs.Query.{states};
@@ -10,20 +10,20 @@ use components::Components;
 use game_model::{Marks, Question};
 use predecessors::Predecessors;
 
-/// A question with its components.
+/// A question comes with its components.
 #[derive(Drop)]
 pub struct Frame<'a, 'q> {
-    /// The question.
+    /// This is the question.
     pub question: &'a Question<'q>,
-    /// The predecessors in its game.
+    /// These are the predecessors in its game.
     pub predecessors: &'a Predecessors,
-    /// The states of positive value.
+    /// These are the states of positive value.
     pub approach: &'a Approach,
-    /// The components of the states whose value is neither 1 nor 0; each other state is one of its own.
+    /// These are the components of the states whose value is neither 1 nor 0. Each other state is one of its own.
     pub components: &'a Components,
-    /// The states of value 1.
+    /// These are the states of value 1.
     pub sure: &'a Marks,
-    /// The states of value 0.
+    /// These are the states of value 0.
     pub zero: &'a Marks,
     ghost lists: { ArePredecessors question.now.game predecessors.now },
     ghost components_all: { states_of components.now ≡ states question.now },
@@ -31,7 +31,7 @@ pub struct Frame<'a, 'q> {
     ghost zero_all: { length zero.now ≡ states question.now },
 }
 
-/// Whether the value of a state is neither 1 nor 0.
+/// Returns whether the value of a state is neither 1 nor 0.
 pub(crate) fn is_open(sure: &Marks, zero: &Marks, state: u32) -> bool
     requires sure { state < length sure.now }
     requires zero { state < length zero.now }

@@ -1,4 +1,4 @@
-//! Lower tables of components.
+//! This module finds lower tables of components.
 
 ghost use Rattle.std.specs.Prelude.{◌≡◌, ◌+◌, ◌<◌, length};
 ghost use Rattle.game_model.specs.Query.{states};
@@ -14,7 +14,7 @@ use std::alloc::Global;
 use std::num::nearest_u64_to_f64;
 use table_rounding::{Setting, UnitTable, round_component, single_entry};
 
-/// The local game of a component, and a policy to begin with.
+/// The local game of a component comes with an initial policy.
 #[derive(Drop)]
 struct Local {
     game: FloatGame,
@@ -22,8 +22,8 @@ struct Local {
 }
 
 /// Finds lower entries for the states of a component, the choices of the maximiser that they go by, the best replies of
-/// the minimiser, and the values that the entries were rounded from. Values begin at 0, and the maximiser's choices
-/// with those that lead toward a goal, so that no value is kept up by play that stays for ever.
+/// the minimiser, and the values that the entries were rounded from. Values begin at 0, and the maximiser begins with
+/// the choices that lead toward a goal, so that no value is kept up by play that stays for ever.
 pub(crate) fn lower_component(
     alloc: Global,
     frame: &Frame<'_, '_>,
@@ -97,7 +97,7 @@ pub(crate) fn note_value(values: &mut [f64], state: u32, value: f64) {
     }
 }
 
-/// The numbers below this one.
+/// Returns the numbers below this one.
 pub(crate) fn numbers(alloc: Global, end: usize) -> Result<Vec<u32>, OutOfMemory> {
     let mut list = Vec::with_capacity(alloc, end)?;
     for number in 0..end {
@@ -113,14 +113,14 @@ pub(crate) fn place_nodes(members: &[u32], nodes: &[u32], node_of: &mut [u32]) {
     }
 }
 
-/// Takes the nodes of the members of a component back.
+/// Clears the nodes of the members of a component.
 pub(crate) fn clear_nodes(members: &[u32], node_of: &mut [u32]) {
     for state in members {
         note(node_of, *state, NONE);
     }
 }
 
-/// The local game: a node for each member, and what leaves gives what the table says.
+/// Makes the local game, with a node for each member. What leaves it gives what the table says.
 fn local_game(
     alloc: Global,
     frame: &Frame<'_, '_>,
@@ -146,7 +146,7 @@ fn local_game(
     }
 }
 
-/// Adds the node of a state. Gives the choice to begin with: of the maximiser the wanted one.
+/// Adds the node of a state, and returns its initial choice. For the maximiser this is the wanted one.
 fn add_state(
     question: &Question,
     wanted: u32,

@@ -1,4 +1,4 @@
-//! Better replies of the minimiser, over upper values.
+//! This module finds better replies of the minimiser over upper values.
 
 ghost use Rattle.std.specs.Prelude.{◌≡◌, ◌<◌, length};
 ghost use Rattle.game_model.specs.Query.{states};
@@ -9,10 +9,10 @@ use crate::weights::{float_of, is_narrow};
 use game_model::{Question, Row, Side};
 use std::num::nearest_u64_to_f64;
 
-/// A reply is exchanged for one that gives less by more than so many units.
+/// A reply is exchanged for one that gives less than the value of its state by more than this many units.
 const GAIN: f64 = 4.0;
 
-/// Exchanges replies for better ones. Gives the first component with an exchange, or nothing where there is none.
+/// Exchanges replies for better ones. Returns the first component with an exchange, or nothing if there is none.
 pub(crate) fn improve_replies(
     frame: &Frame<'_, '_>,
     upper: &[f64],
@@ -33,7 +33,7 @@ pub(crate) fn improve_replies(
     first
 }
 
-/// Exchanges the reply of a state for a better one. Whether there is one.
+/// Exchanges the reply of a state for a better one, and returns whether there is one.
 fn is_improved(frame: &Frame<'_, '_>, upper: &[f64], replies: &mut [u32], state: u32) -> bool
     requires state { state < states frame.now.question.now }
     ensures { length replies.new ≡ length replies.old }
@@ -53,14 +53,14 @@ fn is_improved(frame: &Frame<'_, '_>, upper: &[f64], replies: &mut [u32], state:
     true
 }
 
-/// A choice and what it gives.
+/// A choice comes with what it gives.
 #[derive(Clone, Copy)]
 struct Reply {
     choice: u32,
     value: f64,
 }
 
-/// The choice that gives the least.
+/// Returns the choice that gives the least.
 fn best_reply(question: &Question, upper: &[f64], state: u32) -> Reply
     requires { state < states question.now }
 {
@@ -79,7 +79,7 @@ fn best_reply(question: &Question, upper: &[f64], state: u32) -> Reply
     best
 }
 
-/// What a choice gives by these values.
+/// Returns what a choice gives by these values.
 fn value_of(row: &Row<'_>, values: &[f64], choice: u32) -> f64
     requires { choice < length row.now }
 {
@@ -98,12 +98,12 @@ fn value_of(row: &Row<'_>, values: &[f64], choice: u32) -> f64
     sum / float_of(row.total(choice))
 }
 
-/// The value of a state.
+/// Returns the value of a state.
 fn value_at(values: &[f64], state: u32) -> f64 {
     values.get(state as usize).copied().unwrap_or(0.0)
 }
 
-/// Whether the side of a state may take a choice: the minimiser plays its reply.
+/// Returns whether the side of a state may take a choice. The minimiser plays its reply.
 pub(crate) fn is_played(question: &Question, replies: &[u32], state: u32, choice: u32) -> bool
     requires { state < states question.now }
 {

@@ -1,4 +1,4 @@
-//! Upper tables of components.
+//! This module finds upper tables of components.
 
 ghost use Rattle.std.specs.Prelude.{◌≡◌, ◌+◌, ◌<◌, length};
 ghost use Rattle.game_model.specs.Query.{states};
@@ -17,17 +17,17 @@ use std::alloc::Global;
 use std::num::nearest_u64_to_f64;
 use table_rounding::{Setting, UnitTable, round_component, single_entry};
 
-/// What upper values begin with: for each state a value, in units, and a choice of the maximiser.
+/// Upper values begin with a value for each state, in units, and a choice of the maximiser.
 #[derive(Drop)]
 pub struct Start<'a> {
-    /// The values.
+    /// These are the values.
     pub values: &'a [f64],
-    /// The choices.
+    /// These are the choices.
     pub planned: &'a [u32],
 }
 
-/// What a local game is made by: for each member of the component its node, the end components, the choices to begin
-/// with, and the minimiser's replies.
+/// A local game is made from the node of each member of the component, the end components, the initial choices, and the
+/// minimiser's replies.
 #[derive(Drop)]
 struct Shape<'a> {
     nodes: &'a [u32],
@@ -36,16 +36,16 @@ struct Shape<'a> {
     replies: &'a [u32],
 }
 
-/// The local game of a component, and a policy to begin with.
+/// The local game of a component comes with an initial policy.
 #[derive(Drop)]
 struct Local {
     game: FloatGame,
     policy: Vec<u32>,
 }
 
-/// Finds upper entries for the states of a component, where the minimiser plays these replies, and values to compare
-/// replies by: the entries, or what could not be rounded. The states of an end component have one node, with the
-/// choices that leave it. Where no values are found, the entries are the unit.
+/// Finds upper entries for the states of a component when the minimiser plays these replies. It also finds values to
+/// compare replies by: the entries, or what could not be rounded. The states of an end component have one node, with
+/// the choices that leave it. If no values are found, the entries are the unit.
 pub(crate) fn upper_component(
     alloc: Global,
     frame: &Frame<'_, '_>,
@@ -104,7 +104,7 @@ pub(crate) fn upper_component(
     Ok(())
 }
 
-/// Shows the entries of a component where they hold, and else the values of its nodes.
+/// Shows the entries of a component if they hold, and else the values of its nodes.
 fn show(
     members: &[u32],
     nodes: &[u32],
@@ -124,7 +124,7 @@ fn show(
     }
 }
 
-/// The entry that always holds, for the states of a component.
+/// Gives the states of a component the entry that always holds.
 fn give_up(frame: &Frame<'_, '_>, component: u32, upper: &mut UnitTable)
     requires counted { component + 1 < length frame.now.components.now.starts }
     requires upper { length upper.old ≡ states frame.now.question.now }
@@ -136,7 +136,7 @@ fn give_up(frame: &Frame<'_, '_>, component: u32, upper: &mut UnitTable)
     }
 }
 
-/// For each member its node: one for each end component, in the order of their first members.
+/// Returns the node of each member. Each end component has one, in the order of their first members.
 fn nodes_of_members(
     alloc: Global,
     frame: &Frame<'_, '_>,
@@ -165,7 +165,7 @@ fn nodes_of_members(
     Ok(nodes)
 }
 
-/// What stands for a state in a list over the members of its component.
+/// Returns the entry of a state in a list over the members of its component.
 fn node_of(frame: &Frame<'_, '_>, component: u32, list: &[u32], state: u32) -> u32 {
     if state < frame.question.game().states() && frame.components.component_of(state) == component {
         let place = frame.components.place_of(state) as usize;
@@ -175,7 +175,7 @@ fn node_of(frame: &Frame<'_, '_>, component: u32, list: &[u32], state: u32) -> u
     }
 }
 
-/// The values to begin with: the greatest of the members of a node.
+/// Returns the initial value of each node, which is the greatest of its members.
 fn first_values(
     alloc: Global,
     frame: &Frame<'_, '_>,
@@ -199,7 +199,7 @@ fn first_values(
     Ok(values)
 }
 
-/// The local game: what leaves gives what the table says.
+/// Makes the local game. What leaves it gives what the table says.
 fn local_game(
     alloc: Global,
     frame: &Frame<'_, '_>,
@@ -233,8 +233,8 @@ fn local_game(
     }
 }
 
-/// Adds the node of an end component of at most so many states, or of a state that is in none. Gives the choice to
-/// begin with.
+/// Adds the node of an end component of at most this many states, or of a state that is in none. Returns the initial
+/// choice.
 fn add_group(
     question: &Question,
     shape: &Shape<'_>,
@@ -264,7 +264,8 @@ fn add_group(
     Ok(first)
 }
 
-/// Adds the choices of a state: those of an end component that leave it. Gives the one that the maximiser begins with.
+/// Adds the choices of a state. For an end component these are the ones that leave it. Returns the choice with which
+/// the maximiser begins.
 fn add_state(
     question: &Question,
     shape: &Shape<'_>,

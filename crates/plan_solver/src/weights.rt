@@ -1,20 +1,20 @@
-//! Numbers in floating point.
+//! This module makes weights into numbers in floating point.
 
 ghost use Rattle.std.specs.Prelude.{◌^◌, ◌<◌, ◌↔◌, IsTrue};
 
 use std::num::nearest_u64_to_f64;
 
-/// Two to the 64th.
+/// This is two to the 64th.
 const HIGH: u128 = 18_446_744_073_709_551_616;
 
-/// Whether weights with this total fit 64 bits.
+/// Returns whether weights with this total fit 64 bits.
 pub(crate) fn is_narrow(total: u128) -> bool
     ensures { IsTrue result ↔ (total < 2 ^ 64) }
 {
     total < HIGH
 }
 
-/// A weight, as near as floats are.
+/// Returns a weight as a float, up to rounding.
 pub(crate) fn float_of(weight: u128) -> f64 {
     let low = u64::try_from(weight % HIGH).unwrap_or(u64::MAX);
     let high = u64::try_from(weight / HIGH).unwrap_or(u64::MAX);

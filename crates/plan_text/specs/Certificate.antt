@@ -1,4 +1,4 @@
--- A certificate in a text, as a relation: which lines stand for which entries.
+-- A text has a certificate if its lines spell the entries.
 use Rattle.std.specs.Prelude.{◌≡◌, ℕ, ◌+◌, List, [], ◌∷◌, ◌++◌, length, Some, false, All, codes}
 use Rattle.text_lines.specs.Text.{lines_of, fields_of, number_of}
 use Rattle.plan_text.specs.declared.version.Version.{Version}
@@ -6,11 +6,11 @@ use Rattle.plan_text.specs.Entries.{Entry, IsInRange}
 use Rattle.plan_text.specs.Versions.{version_text}
 use Rattle.plan_text.specs.Said.{entry_in, is_heading}
 
--- a line that spells a state and its entry, within the limits
+-- A line spells a state and its entry, and the entry is within the limits.
 abbrev pub IsEntryLine : Version → ℕ → List ℕ → Entry → Type 0
 IsEntryLine version s line entry = (entry_in version s (fields_of line) ≡ Some entry) × IsInRange entry
 
--- a line for each of these entries, of which the first is of state s
+-- Each of these entries has a line, and the first entry is that of state s.
 abbrev pub AreEntryLines : Version → ℕ → List (List ℕ) → List Entry → Type 0
 AreEntryLines version s [] [] = Unit {0}
 AreEntryLines version s [] (entry ∷ entries) = ⊥
@@ -18,17 +18,17 @@ AreEntryLines version s (line ∷ lines) [] = ⊥
 AreEntryLines version s (line ∷ lines) (entry ∷ entries) =
     IsEntryLine version s line entry × AreEntryLines version (s + 1) lines entries
 
--- the first line of a certificate of so many states: `certificate`, its version, and their number
+-- The first line of a certificate says `certificate`, its version, and the number of states.
 pub record IsFirstLine (version : Version) (states : ℕ) (line : List ℕ) : Type 0 where
   pub count : List ℕ
   pub fields : fields_of line ≡ codes "certificate" ∷ version_text version ∷ count ∷ []
   pub spelled : number_of count ≡ Some states
 
--- the text has a certificate of these entries: lines that do not begin with the word, its first line, a line for each
--- entry, and blank lines
+-- The text has a certificate of these entries: lines that do not begin with the word, its first line, a line for each
+-- entry, and blank lines.
 pub record IsCertificate (text : List ℕ) (entries : List Entry) : Type 0 where
   pub version : Version
-  -- the lines that are passed over, the first line, those of the entries, and those that are blank
+  -- The lists have the lines that are passed over, the first line, the lines of the entries, and the blank lines.
   pub before : List (List ℕ)
   pub first : List ℕ
   pub states : List (List ℕ)

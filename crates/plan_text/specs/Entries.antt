@@ -1,10 +1,10 @@
--- What a certificate says: an entry for each state.
+-- This module defines the entries of a certificate, one for each state.
 use Rattle.std.specs.Prelude.{◌≡◌, ℕ, ◌≤◌, List, length, map, slice_index, slice_index_or, Option, Some, None}
 use Rattle.std.specs.List.{range_with_len}
 use Rattle.game_model.specs.Limits.{unit}
 use Rattle.plan_text.specs.declared.plan.Plan.{Plan}
 
--- the bounds of a state, the choices of both sides, where they are given, and the rank
+-- An entry has the bounds of a state, the choices of both sides, if they are given, and the rank.
 pub record Entry : Type 0 where
   pub lower : ℕ
   pub choice : Option ℕ
@@ -12,20 +12,20 @@ pub record Entry : Type 0 where
   pub upper : ℕ
   pub reply : Option ℕ
 
--- the greatest number of a choice: a word keeps it in 14 bits
+-- No choice has a greater number: a word keeps it in 14 bits.
 abbrev pub greatest_choice : ℕ
 greatest_choice = 16383
 
--- the greatest rank: the greatest number of 32 bits
+-- No rank is greater: it is the greatest number of 32 bits.
 abbrev pub greatest_rank : ℕ
 greatest_rank = 4294967295
 
--- the number of a choice, where one is given, is at most the greatest
+-- The number of a choice, if one is given, is at most the greatest.
 abbrev pub IsSmall : Option ℕ → Type 0
 IsSmall None = Unit {0}
 IsSmall (Some choice) = choice ≤ greatest_choice
 
--- the bounds are values, and choices and the rank have their limits
+-- The bounds are values, and the choices and the rank are within their limits.
 pub record IsInRange (entry : Entry) : Type 0 where
   pub lower : entry.lower ≤ unit
   pub choice : IsSmall entry.choice
@@ -33,7 +33,7 @@ pub record IsInRange (entry : Entry) : Type 0 where
   pub upper : entry.upper ≤ unit
   pub reply : IsSmall entry.reply
 
--- the five lists of a plan have this length
+-- The five lists of a plan have this length.
 pub record HasStates (plan : Plan) (states : ℕ) : Type 0 where
   pub lower : length plan.lower.items ≡ states
   pub choices : length plan.choices.items ≡ states
@@ -41,7 +41,7 @@ pub record HasStates (plan : Plan) (states : ℕ) : Type 0 where
   pub upper : length plan.upper.items ≡ states
   pub replies : length plan.replies.items ≡ states
 
--- what the plan says of a state
+-- The entry is what the plan says of a state.
 abbrev pub entry_at : Plan → ℕ → Entry
 entry_at plan s = record {
   lower = slice_index plan.lower.items s;
@@ -51,6 +51,6 @@ entry_at plan s = record {
   reply = slice_index_or plan.replies.items s None;
 }
 
--- what the plan says of each state
+-- The plan has an entry for each state.
 abbrev pub entries_of : Plan → List Entry
 entries_of plan = map (entry_at plan) (range_with_len 0 (length plan.lower.items))

@@ -1,28 +1,28 @@
--- The text of a certificate.
+-- This module defines the text that is written for a certificate.
 use Rattle.std.specs.Prelude.{ℕ, ◌+◌, List, [], ◌∷◌, ◌++◌, length, Option, Some, None, codes, decimal}
 use Rattle.plan_text.specs.Fixed.{fixed}
 use Rattle.plan_text.specs.Entries.{Entry}
 
--- a choice, and `-` where there is none
+-- The text is a choice, or `-` if there is none.
 abbrev pub choice_text : Option ℕ → List ℕ
 choice_text None = codes "-"
 choice_text (Some choice) = decimal choice
 
--- a field behind others
+-- The field comes after a space.
 abbrev pub behind_space : List ℕ → List ℕ
 behind_space field = 32 ∷ field
 
--- the line of a state, as `0 0.500000000000000 1 1 0.500000000000000 -`
+-- The line of a state looks like `0 0.500000000000000 1 1 0.500000000000000 -`.
 abbrev pub entry_text : ℕ → Entry → List ℕ
 entry_text s entry = decimal s ++ (behind_space (fixed entry.lower)
     ++ (behind_space (choice_text entry.choice) ++ (behind_space (decimal entry.rank)
     ++ (behind_space (fixed entry.upper) ++ (behind_space (choice_text entry.reply) ++ codes "\n")))))
 
--- the lines of these states, of which the first is s
+-- Each of these states has a line, and the first state is s.
 abbrev pub entry_lines : ℕ → List Entry → List ℕ
 entry_lines s [] = []
 entry_lines s (entry ∷ entries) = entry_text s entry ++ entry_lines (s + 1) entries
 
--- the line `certificate 2 N`, and a line for each of the N states
+-- The text has the line `certificate 2 N`, and a line for each of the N states.
 abbrev pub certificate_text : List Entry → List ℕ
 certificate_text entries = (codes "certificate 2 " ++ (decimal (length entries) ++ codes "\n")) ++ entry_lines 0 entries

@@ -1,2 +1,2 @@
--- What the crate's own loops and private functions speak of: no clause of a public function unfolds to it.
+-- The crate's own loops and private functions use these definitions: no clause of a public function unfolds to them.
 pub mod Read

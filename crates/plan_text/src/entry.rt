@@ -1,5 +1,5 @@
-//! The line of a state: its number, the lower bound, the maximiser's choice, the rank, the upper bound and the
-//! minimiser's choice.
+//! The line of a state has six fields: the state's number, the lower bound, the maximiser's choice, the rank, the upper
+//! bound and the minimiser's choice.
 
 ghost use Rattle.std.specs.Prelude.{◌≡◌, option_map, IfOk};
 ghost use Rattle.text_lines.specs.Text.{fields_of, saturated};
@@ -13,21 +13,21 @@ use game_model::UNIT;
 use std::marker::Model;
 use text_lines::{first_field, whole};
 
-/// The greatest number of a choice.
+/// No choice has a greater number.
 pub(crate) const GREATEST_CHOICE: u64 = 16_383;
 
-/// What a line says of its state. Contracts see it as an entry.
+/// A line says this of its state. Contracts see it as an entry.
 #[derive(Drop)]
 pub struct StateLine {
-    /// The lower bound in units.
+    /// The state has this lower bound, in units.
     pub lower: u64,
-    /// The maximiser's choice.
+    /// The maximiser may have a choice.
     pub choice: Option<u64>,
-    /// The rank.
+    /// The state has this rank.
     pub rank: u64,
-    /// The upper bound in units.
+    /// The state has this upper bound, in units.
     pub upper: u64,
-    /// The minimiser's choice.
+    /// The minimiser may have a choice.
     pub reply: Option<u64>,
 }
 
@@ -46,7 +46,7 @@ impl Model for StateLine {
 }
 
 impl StateLine {
-    // What a line spells of this state, if it has the form.
+    // Returns what a line spells of this state, if it has the right form.
     fn spelled(version: Version, state: u32, line: &[u8]) -> Option<StateLine>
         ensures { result ≡ option_map saturated_entry (entry_in version state (fields_of line.now)) }
     {
@@ -68,7 +68,7 @@ impl StateLine {
         })
     }
 
-    // Whether the bounds are values, and the choices and the rank within their limits.
+    // Returns whether the bounds are values, and the choices and the rank are within their limits.
     fn is_in_range(&self) -> bool
         ensures { result ≡ is_in_range self.now }
     {
@@ -79,7 +79,7 @@ impl StateLine {
             && self.rank <= u64::from(u32::MAX)
     }
 
-    /// What a line says of this state, or its fault.
+    /// Returns what a line says of this state, or its fault.
     pub fn read(version: Version, state: u32, line: &[u8]) -> Result<StateLine, PlanCause>
         ensures said { result ≡ line_said version state line.now }
         ensures range { IfOk result IsInRange }
@@ -95,7 +95,7 @@ impl StateLine {
     }
 }
 
-// The units of a value: a digit, a point and the decimals of the version.
+// Returns the units of a value: a digit, a point and the decimals of the version.
 fn units_in(version: Version, field: &[u8]) -> Option<u64>
     ensures { result ≡ units_of version field.now }
 {
@@ -109,7 +109,7 @@ fn units_in(version: Version, field: &[u8]) -> Option<u64>
     Some(u64::from(*ones - b'0') * UNIT + decimals)
 }
 
-// A choice, or `-` for none.
+// Reads a choice, or `-` for none.
 fn choice_in(field: &[u8]) -> Option<Option<u64>>
     ensures { result ≡ option_map (option_map saturated) (choice_in field.now) }
 {

@@ -1,17 +1,17 @@
-//! Why a certificate is refused.
+//! This module has the reasons for which the text of a certificate is refused.
 
-/// Why the text of a certificate is refused.
+/// The text of a certificate is refused for one of these causes.
 #[derive(Clone, Copy, Debug, PartialEq, Eq)]
 pub enum PlanCause {
-    /// Memory was wanting.
+    /// Memory ran out.
     OutOfMemory,
     /// No line has the first field `certificate`.
     NoCertificate,
-    /// The certificate is of another version than `1` and `2`.
+    /// The version of the certificate is neither `1` nor `2`.
     Version,
-    /// It is of another number of states.
+    /// The certificate has another number of states than was asked for.
     StateCount,
-    /// A line has not the form of its place.
+    /// A line does not have the form of its place.
     BadLine,
     /// A value is above the unit, or a choice or a rank is too great.
     NumberOutOfRange,
@@ -19,13 +19,12 @@ pub enum PlanCause {
     MissingLine,
 }
 
-/// A fault of a certificate's text, with its line. Lines count from 1; line 0 says the whole text, or that memory was
-/// wanting.
+/// A certificate's text has a fault at a line. Lines count from 1. Line 0 means the whole text, or that memory ran out.
 #[derive(Clone, Copy, Debug, PartialEq, Eq)]
 pub struct PlanFault {
-    /// The number of the line.
+    /// This is the number of the line.
     pub line: u32,
-    /// What is wrong there.
+    /// This is what is wrong there.
     pub cause: PlanCause,
 }
 
@@ -33,7 +32,7 @@ impl PlanFault {
     ghost use Rattle.std.specs.Prelude.{◌≡◌};
     ghost use Rattle.plan_text.specs.Said.{fault_at};
 
-    /// The fault that memory was wanting.
+    /// Makes the fault that memory ran out.
     pub(crate) fn out_of_memory() -> PlanFault
         ensures { result ≡ fault_at 0 PlanCause.OutOfMemory }
     {

@@ -1,9 +1,9 @@
-//! Certificates as text, and the values in them.
+//! Certificates are written as text and read from text, and so are the values in them.
 //!
-//! [`write_plan`] spells a certificate line by line, and [`read_plan`] reads one of any origin: what it says of each
-//! state, or the first line at fault and its cause. What was written is read back ([`laws`]). A value, a count of
-//! units, is one digit, a point and fifteen digits ([`fixed_text`]), so that each text has one reading. Certificates of
-//! the first version, whose values have twelve digits behind the point, are read too.
+//! [`write_plan`] spells a certificate line by line. [`read_plan`] reads one of any origin: it gives what the text says
+//! of each state, or the first line at fault and its cause. A written certificate is read back ([`laws`]). A value, a
+//! count of units, is one digit, a point and fifteen digits ([`fixed_text`]), so each text has one reading.
+//! Certificates of the first version, whose values have twelve digits after the point, are read too.
 #![tactic(auto)]
 
 mod entry;

@@ -1,4 +1,4 @@
-//! Bytes at the end of a text.
+//! These functions append bytes to a text.
 
 ghost use Rattle.std.specs.Prelude.{◌≡◌, ◌++◌, OnOk, decimal};
 

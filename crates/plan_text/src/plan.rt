@@ -1,4 +1,4 @@
-//! A certificate, as it is handed on.
+//! A plan is a certificate in memory.
 
 ghost use Rattle.std.specs.Prelude.{◌≡◌, ◌+◌, ◌++◌, ◌∷◌, [], length, IfOk, OnOk};
 ghost use Rattle.plan_text.specs.Entries.{IsSmall};
@@ -6,25 +6,25 @@ ghost use Rattle.plan_text.specs.Entries.{IsSmall};
 use crate::entry::StateLine;
 use std::alloc::{AllocError, Global};
 
-/// A certificate of a question: for each state both bounds in units, the choices of both sides, and a rank.
+/// A certificate of a question has for each state both bounds in units, the choices of both sides, and a rank.
 #[derive(Drop)]
 pub struct Plan {
-    /// The lower bound of each state, in units.
+    /// Each state has a lower bound, in units.
     pub lower: Vec<u64>,
-    /// The maximiser's choices, where one is given.
+    /// A state may have a choice of the maximiser.
     pub choices: Vec<Option<u32>>,
-    /// The rank of each state.
+    /// Each state has a rank.
     pub ranks: Vec<u32>,
-    /// The upper bound of each state, in units.
+    /// Each state has an upper bound, in units.
     pub upper: Vec<u64>,
-    /// The minimiser's choices, where one is given.
+    /// A state may have a choice of the minimiser.
     pub replies: Vec<Option<u32>>,
 }
 
 impl Plan {
     ghost use Rattle.plan_text.specs.Entries.{HasStates, IsInRange, entries_of};
 
-    /// A certificate of no state, with room for so many.
+    /// Makes a certificate of no state, with room for this many.
     pub(crate) fn with_room(alloc: Global, states: u32) -> Result<Plan, AllocError>
         ensures { IfOk result (λ plan. HasStates plan 0) }
     {
@@ -54,7 +54,7 @@ impl Plan {
     }
 }
 
-// A choice that has its limit.
+// Narrows a choice that is within its limit.
 fn narrowed(choice: Option<u64>) -> Option<u32>
     requires { IsSmall choice }
     ensures { result ≡ choice }

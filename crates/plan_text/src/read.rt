@@ -1,4 +1,4 @@
-//! A certificate that is read.
+//! This module reads a certificate from text.
 
 ghost use Rattle.std.specs.Prelude.{◌≡◌, ◌≤◌, ◌<◌, ◌+◌, ◌&&◌, [], Ok, Err, All, IfOk, MatchResult, length, if◌then◌else◌};
 ghost use Rattle.text_lines.specs.Limits.{most_bytes};
@@ -16,9 +16,9 @@ use crate::version::Version;
 use std::alloc::Global;
 use text_lines::{first_field, first_line, only_blank};
 
-/// Reads the certificate of so many states from a text. Lines before the first one whose first field is `certificate`
-/// are passed over. A value of the first version is as many units as its decimals say. What is read is what the text
-/// says, or its first fault, line by line; else memory was wanting.
+/// Reads the certificate of this many states from a text. It passes over the lines before the first one whose first
+/// field is `certificate`. A value of the first version is as many units as its decimals say. It returns what the text
+/// says, or the first fault of the text, line by line, unless memory runs out.
 pub fn read_plan(alloc: Global, bytes: &[u8], states: u32) -> Result<Plan, PlanFault>
     requires { length bytes.now ≤ most_bytes }
     ensures lists { IfOk result (λ plan. HasStates plan states) }
@@ -29,7 +29,7 @@ pub fn read_plan(alloc: Global, bytes: &[u8], states: u32) -> Result<Plan, PlanF
     read_states(alloc, version, text, number, states)
 }
 
-// Reads the lines of the states, of which the first has this number.
+// Reads the lines of the states, the first of which has this number.
 fn read_states(
     alloc: Global,
     version: Version,
@@ -59,7 +59,7 @@ fn read_states(
     Ok(plan)
 }
 
-// What the first line says of this state, and what stands behind the line; or its fault.
+// Returns what the first line says of this state and the text after the line, or its fault.
 fn read_state(
     version: Version,
     state: u32,
@@ -88,7 +88,7 @@ fn read_state(
     }
 }
 
-// Why a line is refused: it is missing where it and all behind it are blank.
+// Says why a line is refused: it is missing if it and all lines after it are blank.
 fn cause_of(line: &[u8], after: &[u8], cause: PlanCause) -> PlanCause
     ensures { result ≡ (if is_nil (fields_of line.now) && is_nil
         (significant (lines_of after.now)) then PlanCause.MissingLine else cause) }
@@ -100,7 +100,7 @@ fn cause_of(line: &[u8], after: &[u8], cause: PlanCause) -> PlanCause
     }
 }
 
-// All lines are blank, or the first that is not is at fault.
+// Checks that all lines are blank. The first line that is not blank is at fault.
 fn check_end(text: &[u8], first: u32) -> Result<(), PlanFault>
     requires { first + length text.now ≤ 1 + most_bytes }
     ensures { result ≡ end_said first (lines_of text.now) }

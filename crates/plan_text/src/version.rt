@@ -1,21 +1,21 @@
-//! The versions of a certificate.
+//! This module has the two versions of certificates.
 
 ghost use Rattle.std.specs.Prelude.{◌≡◌};
 ghost use Rattle.plan_text.specs.Versions.{decimals_of, units_of_last_digit, version_in};
 
 use crate::fixed::UNIT_DIGITS;
 
-/// Which decimals the values of a certificate have: 12 or 15.
+/// The version says how many decimals the values of a certificate have: 12 or 15.
 #[derive(Clone, Copy)]
 pub enum Version {
     /// Values have 12 decimals.
     One,
-    /// Values have 15 decimals, so that the last one counts units.
+    /// Values have 15 decimals: the last one counts units.
     Two,
 }
 
 impl Version {
-    /// The version that a field names.
+    /// Returns the version that a field names.
     pub fn named(field: &[u8]) -> Option<Version>
         ensures { result ≡ version_in field.now }
     {
@@ -28,7 +28,7 @@ impl Version {
         }
     }
 
-    /// The digits of a value behind its point.
+    /// A value has this many digits after its point.
     pub fn decimals(self) -> usize
         ensures { result ≡ decimals_of self }
     {
@@ -38,7 +38,7 @@ impl Version {
         }
     }
 
-    /// How many units the last of these digits counts.
+    /// The last of these digits counts this many units.
     pub fn units_of_last_digit(self) -> u64
         ensures { result ≡ units_of_last_digit self }
     {

@@ -1,4 +1,4 @@
-//! The text of a certificate.
+//! This module writes a certificate as text.
 
 ghost use Rattle.std.specs.Prelude.{◌≡◌, ◌≤◌, ◌<◌, ◌++◌, All, IfOk, OnOk, codes, decimal, length};
 ghost use Rattle.game_model.specs.Limits.{unit};
@@ -12,9 +12,9 @@ use crate::plan::Plan;
 use game_outside::OutOfMemory;
 use std::alloc::Global;
 
-/// The text of a certificate: the line `certificate 2 N`, and for each of the N states, by rising number, the state,
-/// the lower bound, the maximiser's choice, the rank, the upper bound and the minimiser's choice, with one space
-/// between them. The only error is want of memory.
+/// Returns the text of a certificate. The first line is `certificate 2 N`. Then each of the N states has a line, by
+/// rising number: the state, the lower bound, the maximiser's choice, the rank, the upper bound and the minimiser's
+/// choice, with one space between them. The only error is that memory ran out.
 pub fn write_plan(alloc: Global, plan: &Plan) -> Result<Vec<u8>, OutOfMemory>
     requires lists { HasStates plan.now (length plan.now.lower.items) }
     requires some { 1 ≤ length plan.now.lower.items }
@@ -27,7 +27,7 @@ pub fn write_plan(alloc: Global, plan: &Plan) -> Result<Vec<u8>, OutOfMemory>
     Ok(text)
 }
 
-/// Appends the text of [`write_plan`] to a text. The only error is want of memory.
+/// Appends the text of [`write_plan`] to a text. The only error is that memory ran out.
 pub fn append_plan(text: &mut Vec<u8>, plan: &Plan) -> Result<(), OutOfMemory>
     requires lists { HasStates plan.now (length plan.now.lower.items) }
     requires some { 1 ≤ length plan.now.lower.items }
@@ -43,7 +43,7 @@ pub fn append_plan(text: &mut Vec<u8>, plan: &Plan) -> Result<(), OutOfMemory>
     Ok(())
 }
 
-// The first line, which says how many states there are.
+// Appends the first line, which says how many states there are.
 fn append_heading(text: &mut Vec<u8>, states: usize) -> Result<(), OutOfMemory>
     ensures { OnOk result (text.new.items ≡ text.old.items ++
         (codes "certificate 2 " ++ (decimal states ++ codes "\n"))) }
@@ -53,7 +53,7 @@ fn append_heading(text: &mut Vec<u8>, states: usize) -> Result<(), OutOfMemory>
     append(text, b"\n")
 }
 
-// The line of a state.
+// Appends the line of a state.
 fn append_entry(text: &mut Vec<u8>, plan: &Plan, state: usize) -> Result<(), OutOfMemory>
     requires lists { HasStates plan.now (length plan.now.lower.items) }
     requires within { state < length plan.now.lower.items }
@@ -70,7 +70,7 @@ fn append_entry(text: &mut Vec<u8>, plan: &Plan, state: usize) -> Result<(), Out
     append(text, b"\n")
 }
 
-// A value behind a space.
+// Appends a space and a value.
 fn append_value(text: &mut Vec<u8>, units: u64) -> Result<(), OutOfMemory>
     requires { units ≤ unit }
     ensures { OnOk result (text.new.items ≡ text.old.items ++ behind_space (fixed units)) }
@@ -79,7 +79,7 @@ fn append_value(text: &mut Vec<u8>, units: u64) -> Result<(), OutOfMemory>
     append_fixed(text, units)
 }
 
-// A choice behind a space.
+// Appends a space and a choice.
 fn append_choice(text: &mut Vec<u8>, choice: Option<u32>) -> Result<(), OutOfMemory>
     ensures { OnOk result (text.new.items ≡ text.old.items ++ behind_space (choice_text choice)) }
 {
@@ -90,7 +90,7 @@ fn append_choice(text: &mut Vec<u8>, choice: Option<u32>) -> Result<(), OutOfMem
     }
 }
 
-// A rank behind a space.
+// Appends a space and a rank.
 fn append_rank(text: &mut Vec<u8>, rank: u32) -> Result<(), OutOfMemory>
     ensures { OnOk result (text.new.items ≡ text.old.items ++ behind_space (decimal rank)) }
 {

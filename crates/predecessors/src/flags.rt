@@ -1,4 +1,4 @@
-//! The flags of the choices of a game.
+//! This module keeps a flag for each choice of a game.
 
 ghost use Rattle.std.specs.Prelude.{◌≡◌, ℕ, ◌+◌, ◌<◌, length, IfOk, OnOk};
 ghost use Rattle.game_model.specs.Game.{choices_of, choices_below};
@@ -9,7 +9,7 @@ use game_outside::OutOfMemory;
 use std::alloc::Global;
 use std::marker::Model;
 
-/// One flag for each choice of a game, in the order of the game.
+/// Each choice of a game has one flag, in the order of the game.
 #[derive(Drop)]
 pub struct ChoiceFlags {
     flags: Vec<bool>,
@@ -24,8 +24,8 @@ impl Model for ChoiceFlags {
 }
 
 impl ChoiceFlags {
-    /// What the test answers of each choice, given its state and its place among the choices of that state. The
-    /// only error is want of memory.
+    /// Asks the test about each choice, by its state and its place among the choices of that state, and keeps the
+    /// answers. The only error is that memory ran out.
     pub fn of_game<F: Fn(u32, u32) -> bool>(
         alloc: Global,
         game: &Game,
@@ -42,7 +42,7 @@ impl ChoiceFlags {
         Ok(ChoiceFlags { flags })
     }
 
-    /// The flag of a choice, of flags that are as many as the choices of the game.
+    /// Returns the flag of a choice. There must be as many flags as the game has choices.
     pub fn has(&self, game: &Game, state: u32, choice: u32) -> bool
         requires state { state < length game.now }
         requires choice { choice < length (choices_of game.now state) }
@@ -53,7 +53,7 @@ impl ChoiceFlags {
     }
 }
 
-// The flags of the choices of a state.
+// Adds the flags of the choices of a state.
 fn push_state<F: Fn(u32, u32) -> bool>(
     game: &Game,
     holds: &F,
@@ -71,7 +71,7 @@ fn push_state<F: Fn(u32, u32) -> bool>(
     Ok(())
 }
 
-// The number of a choice among all choices of the game.
+// Returns the number of a choice among all choices of the game.
 fn number_of(game: &Game, state: u32, choice: u32) -> usize
     requires state { state < length game.now }
     requires choice { choice < length (choices_of game.now state) }

@@ -1,4 +1,4 @@
-//! Marks of states that lead to another.
+//! This module marks the states that lead to another one.
 
 ghost use Rattle.std.specs.Prelude.{◌≡◌, ℕ, ◌<◌, ◌⊎◌, length};
 ghost use Rattle.predecessors.specs.Lists.{ArePredecessors};
@@ -8,7 +8,7 @@ ghost use Rattle.predecessors.specs.Moves.{LeadsTo};
 use crate::lists::Predecessors;
 use game_model::Game;
 
-/// Marks the predecessors of a state, and no others.
+/// Marks the predecessors of a state, and no other states.
 pub fn mark_predecessors(game: &Game, predecessors: &Predecessors, state: u32, marks: &mut [bool])
     requires predecessors { ArePredecessors game.now predecessors.now }
     requires state { state < length game.now }

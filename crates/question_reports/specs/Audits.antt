@@ -1,4 +1,4 @@
--- The answer of an audit: a report of the initial states from a certificate that is accepted.
+-- These definitions give the answer of an audit: a report of the initial states from a certificate that is accepted.
 use Rattle.std.specs.Prelude.{◌≡◌, ℕ, false, List, slice_index, All}
 use Rattle.game_model.specs.Query.{Query, IsQuery}
 use Rattle.formula_reader.specs.Formula.{Tree}
@@ -13,7 +13,7 @@ use Rattle.run_answers.specs.Printed.{output_of}
 use Rattle.run_answers.specs.declared.status.Status.{Status}
 use Rattle.question_reports.specs.Valued.{IsTold}
 
--- The text and the status say of the initial states what the certificate says, and that is right. Of `G` the
+-- The text and the status say of the initial states what the certificate says, and that is right. For `G` the
 -- certificate is that of the dual.
 pub record IsAudited (q : Query) (initial : List ℕ) (f : Tree) (plan : Plan) (text : List ℕ)
     (status : Status) : Type 0 where
@@ -21,7 +21,7 @@ pub record IsAudited (q : Query) (initial : List ℕ) (f : Tree) (plan : Plan) (
   pub told : IsTold q initial f plan (output_of false f Audited initial plan).lines status
   pub written : text ≡ report (output_of false f Audited initial plan).lines
   pub lines : All IsLine (output_of false f Audited initial plan).lines
-  -- Undecided is said only where the bounds leave the threshold open
+  -- Undecided is said only if the bounds leave the threshold open.
   pub left_open : All (λ line. line.verdict ≡ Undecided → LeavesOpen (answered f).bound
       (slice_index plan.lower.items line.state) (slice_index plan.upper.items line.state) 1 0)
       (output_of false f Audited initial plan).lines

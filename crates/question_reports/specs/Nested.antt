@@ -1,4 +1,4 @@
--- The answer to a formula with others inside.
+-- These definitions give the answer to a formula with others inside.
 use Rattle.std.specs.Prelude.{◌≡◌, ◌<◌, ◌≤◌, ◌^◌, ◌++◌, ℕ, false, List, length, map, codes, All, Ok}
 use Rattle.formula_reader.specs.Formula.{Tree, formulas_inside, tree_of}
 use Rattle.formula_tokens.specs.Limits.{longest}
@@ -15,20 +15,20 @@ use Rattle.asked_files.specs.Posed.{HasSizes}
 use Rattle.run_answers.specs.Printed.{line_of, status_of}
 use Rattle.run_answers.specs.declared.status.Status.{Status}
 
--- the line `inner I undecided U`: so many formulas stand inside, and so many pairs of one and a state are left
--- undecided
+-- The line `inner I undecided U` says that I formulas are inside, and that U pairs of one of them and a state are left
+-- undecided.
 abbrev pub inside_text : ℕ → ℕ → List ℕ
 inside_text inner undecided = numbered (codes "inner ") inner
     ++ (numbered (codes " undecided ") undecided ++ codes "\n")
 
 -- The text and the status are the answer: the line about the formulas inside, and a report of bounds that are sound for
--- the exact question. True is true and False is false. The bounds of a `G` are mirrored already.
+-- the exact question. True and False are right for it. The bounds of a `G` are mirrored already.
 pub record IsNestedReport (m : Model) (initial : List ℕ) (f : Tree) (way : Way) (text : List ℕ)
     (status : Status) : Type 0 where
   pub inside : All (λ s. s < length m.game) initial
   pub band : Band
   pub how : How
-  -- how many formulas stand inside, and how many pairs of one and a state are left undecided
+  -- This many formulas are inside, and this many pairs of one of them and a state are left undecided.
   pub inner : ℕ
   pub undecided : ℕ
   pub nested : IsNested m f initial way band how inner undecided
@@ -38,7 +38,7 @@ pub record IsNestedReport (m : Model) (initial : List ℕ) (f : Tree) (way : Way
   pub counts : (inner < 2 ^ 32) × (undecided < 2 ^ 32)
   pub ends : status ≡ status_of (map (line_of false f.bound how band.lower band.upper) initial)
 
--- what was loaded poses the problem of these initial states
+-- What was loaded poses the problem of these initial states.
 pub record IsAnswerable (loaded : Loaded) (initial : List ℕ) : Type 0 where
   pub sizes : HasSizes loaded.game loaded.labels loaded.owners
   pub spellable : IsSpellable (tree_of loaded.formula)

@@ -1,4 +1,5 @@
--- The answer to a question: a report of its initial states, and its certificate where that is asked for.
+-- These definitions give the answer to a question: a report of its initial states, and its certificate if that is asked
+-- for.
 use Rattle.std.specs.Prelude.{◌≡◌, ℕ, ◌≤◌, Bool, true, false, List, length, slice_index, Option, All}
 use Rattle.game_model.specs.Limits.{unit}
 use Rattle.game_model.specs.Query.{Query, IsQuery, states}
@@ -26,40 +27,41 @@ use Rattle.question_reports.specs.Valued.{IsTold}
 
 -- 1. What is printed of what was found.
 
--- an upper table that its replies hold: it passes a check, so no opponent of the minimiser who plays them is above it
+-- The upper table passes a check and its replies hold it, so no opponent of the minimiser who plays them gets above it.
 pub record IsUpperHeld (q : Query) (upper : List ℕ) (replies : List (Option ℕ)) : Type 0 where
   pub as_many : length upper ≡ states q
   pub replied : length replies ≡ states q
   pub units : All (λ v. v ≤ unit) upper
   pub inductive : IsInductive q (slice_index upper)
   pub high : IsHigh q (slice_index upper)
-  -- each state that needs a reply has one that is held to its entry
+  -- Each state that needs a reply has one that is held to its entry.
   pub good : AreReplies q (slice_index upper) replies
   pub holds : HoldsUnder q replies (slice_index upper)
 
--- an upper table as it is, or lowered to the best exits of the traps under the replies
+-- The upper table is shown unchanged, or lowered to the best exits of the traps under the replies.
 abbrev pub IsUpperShown : Query → Bool → List (Option ℕ) → List ℕ → List ℕ → Type 0
 IsUpperShown q true replies upper shown = IsLoweredTable q replies upper shown
 IsUpperShown q false replies upper shown = shown ≡ upper
 
--- the lower table with its choices and ranks, and the upper table, lowered where that is asked for, with its replies
+-- The plan shows the lower table with its choices and ranks, and the upper table with its replies. The upper table is
+-- lowered if that is asked for.
 pub record IsShown (q : Query) (traps : Bool) (found : Bracket) (plan : Plan) : Type 0 where
   pub lower : plan.lower.items ≡ found.lower.items
   pub choices : plan.choices.items ≡ found.choices.items
   pub ranks : plan.ranks.items ≡ found.ranks.items
   pub replies : plan.replies.items ≡ found.replies.items
   pub upper : IsUpperShown q traps found.replies.items found.upper.items plan.upper.items
-  -- the upper table that is shown is nowhere above the one that was found
+  -- The upper table that is shown is nowhere above the one that was found.
   pub below : IsBelow q (slice_index plan.upper.items) (slice_index found.upper.items)
 
 -- 2. The answer.
 
--- the text and the status are the answer to a question: they are those of a bracket after at most the asked rounds. Of
+-- The text and the status are the answer to a question: they are those of a bracket after at most the asked rounds. For
 -- `G` the question is that of its dual, and the bounds are mirrored when they are printed.
 pub record IsBracketReport (q : Query) (initial : List ℕ) (f : Tree) (check : Check) (text : List ℕ)
     (status : Status) : Type 0 where
   pub posed : IsQuery q
-  -- the states whose every k-step value is 0
+  -- The marked states are those whose every k-step value is 0.
   pub zero : List Bool
   pub is_zero : IsZeroSet q zero
   pub found : Bracket
@@ -71,8 +73,8 @@ pub record IsBracketReport (q : Query) (initial : List ℕ) (f : Tree) (check : 
   pub passes : Passes q plan
   pub written : text ≡ output_text (output_of check.plan f (Rounds found.rounds) initial plan)
   pub limits : IsInLimits (output_of check.plan f (Rounds found.rounds) initial plan)
-  -- Undecided is said only where no bracket that the asked rounds promise settles the threshold; of `G` that of the
-  -- dual
+  -- Undecided is said only if the threshold is left open by the printed bounds, by the down steps of the asked rounds,
+  -- and by the values of as many steps. For `G` this is the threshold of the dual.
   pub left_open : All (λ line. line.verdict ≡ Undecided
       → IsLeftOpen q zero (answered f).bound check.rounds (slice_index plan.lower.items)
       (slice_index plan.upper.items) line.state) (output_of check.plan f (Rounds found.rounds) initial plan).lines

@@ -1,5 +1,5 @@
--- The answer of `solve`: a report of a plan that tables of a solver led to, and its certificate where that is asked
--- for.
+-- These definitions give the answer of `solve`: a report of a plan that the tables of a solver led to, and its
+-- certificate if that is asked for.
 use Rattle.std.specs.Prelude.{◌≡◌, ℕ, Bool, List, slice_index, All}
 use Rattle.game_model.specs.Query.{Query, IsQuery, states}
 use Rattle.formula_reader.specs.Formula.{Tree}
@@ -16,8 +16,8 @@ use Rattle.run_answers.specs.Printed.{output_of}
 use Rattle.run_answers.specs.declared.status.Status.{Status}
 use Rattle.question_reports.specs.Valued.{IsTold}
 
--- The text and the status are the answer: those of a plan that passes an audit and is sound. Of `G` the question is
--- that of its dual, and the bounds are mirrored when they are printed.
+-- The text and the status are the answer: they are those of a plan that passes an audit and is sound. For `G` the
+-- question is that of its dual, and the bounds are mirrored when they are printed.
 pub record IsSolved (q : Query) (initial : List ℕ) (f : Tree) (asked : Bool) (text : List ℕ)
     (status : Status) : Type 0 where
   pub posed : IsQuery q
@@ -25,12 +25,13 @@ pub record IsSolved (q : Query) (initial : List ℕ) (f : Tree) (asked : Bool) (
   pub lists : HasStates plan (states q)
   pub told : IsTold q initial f plan (output_of asked f Solved initial plan).lines status
   pub passes : Passes q plan
-  -- the lower bound is 1 exactly at the almost-sure states, and the upper one 0 exactly where every k-step value is
+  -- The lower bound is 1 exactly at the almost-sure states, and the upper bound is 0 exactly where every k-step value
+  -- is 0.
   pub sure : IsSureExactly q plan
   pub zero : IsZeroExactly q plan
   pub written : text ≡ output_text (output_of asked f Solved initial plan)
   pub limits : IsInLimits (output_of asked f Solved initial plan)
-  -- Undecided is said only where the bounds leave the threshold open
+  -- Undecided is said only if the bounds leave the threshold open.
   pub left_open : All (λ line. line.verdict ≡ Undecided → LeavesOpen (answered f).bound
       (slice_index plan.lower.items line.state) (slice_index plan.upper.items line.state) 1 0)
       (output_of asked f Solved initial plan).lines

@@ -1,4 +1,4 @@
--- What a sound plan tells of the initial states, and of the values that a formula asks for.
+-- These definitions say what a sound plan tells of the initial states, and of the values that a formula asks for.
 use Rattle.std.specs.Prelude.{◌≡◌, ℕ, ◌-◌, ◌*◌, ◌<◌, ◌≤◌, true, List, slice_index, All, if◌then◌else◌}
 use Rattle.game_model.specs.Limits.{unit}
 use Rattle.game_model.specs.Query.{Query, states}
@@ -12,33 +12,33 @@ use Rattle.verdicts.specs.declared.report.ReportLine.{ReportLine}
 use Rattle.run_answers.specs.Printed.{is_mirrored, status_of}
 use Rattle.run_answers.specs.declared.status.Status.{Status}
 
--- the value that a formula asks for at a state: that of the question, or of `G` 1 less that of the dual
+-- The value that a formula asks for at a state is that of the question, or for `G` it is 1 less that of the dual.
 abbrev pub asked_value : {q : Query} → Tree → HasValues q → ℕ → ℕ
 asked_value f values s = if is_mirrored f.kind then values.top - values.value s else values.value s
 
--- the bounds of the line lie on either side of the value that the formula asks for at its state, and where its verdict
--- is True that value meets the threshold, and where it is False it does not
+-- The value that the formula asks for at the line's state lies between the bounds of the line. If the verdict is True,
+-- this value meets the threshold, and if it is False, it does not.
 pub record IsPrintedOf {q : Query} (values : HasValues q) (f : Tree) (line : ReportLine) : Type 0 where
   pub below : line.lower * values.top ≤ unit * asked_value f values line.state
   pub above : unit * asked_value f values line.state ≤ line.upper * values.top
   pub right : IsRight f.bound (asked_value f values line.state) values.top line.verdict
 
--- of `G`, where the goals of the dual are the states to stay away from: the replies stay away with at least the printed
--- lower probability, and with the choices play stays away with at most the printed upper one, and any 1/m
+-- The goals of the dual of `G` are the states to stay away from. With the replies, play stays away with at least the
+-- printed lower probability. With the choices, it stays away with at most the printed upper one and any 1/m.
 pub record KeepsAway (q : Query) (plan : Plan) : Type 0 where
   pub avoids : AvoidsAgainstAll q plan.replies.items (λ s. unit - slice_index plan.upper.items s)
   pub avoided : IsAvoidedAgainstAll q plan.choices.items (λ s. unit - slice_index plan.lower.items s)
 
--- what the lines and the plan say of the initial states is so, and the status is that of the lines
+-- What the lines and the plan say of the initial states is right, and the status is that of the lines.
 pub record IsTold (q : Query) (initial : List ℕ) (f : Tree) (plan : Plan) (lines : List ReportLine)
     (status : Status) : Type 0 where
   pub inside : All (λ s. s < states q) initial
-  -- the minimiser's choices hold every strategy of the maximiser to the upper bounds, and the maximiser's reach the
-  -- lower ones, less any 1/m, against every strategy of the minimiser
+  -- The minimiser's replies hold every strategy of the maximiser to the upper bounds. The maximiser's choices reach the
+  -- lower bounds, less any 1/m, against every strategy of the minimiser.
   pub sound : IsSoundPlan q plan
   pub keeps_away : is_mirrored f.kind ≡ true → KeepsAway q plan
-  -- the question has values; at each initial state that which is asked for lies between the printed bounds, and True is
-  -- true and False is false of it
+  -- The question has values. At each initial state the value that is asked for lies between the printed bounds, and
+  -- True and False are right for it.
   pub values : HasValues q
   pub valued : All (IsPrintedOf values f) lines
   pub ends : status ≡ status_of lines

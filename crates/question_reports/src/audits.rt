@@ -1,4 +1,4 @@
-//! The answer of an audit: a report from a certificate that was accepted.
+//! This module makes the answer of an audit: a report from a certificate that was accepted.
 
 ghost use Rattle.std.specs.Prelude.{◌<◌, All, IfOk};
 ghost use Rattle.game_model.specs.Query.{states};
@@ -18,8 +18,8 @@ use std::alloc::Global;
 use verdicts::How;
 use verdicts::laws::{mirrored_verdicts_are_those_of_the_dual, undecided_thresholds_are_left_open};
 
-/// One line for each initial state, with the numbers of a certificate that was accepted, and what they say of a
-/// formula. The only error is want of memory.
+/// Writes one line for each initial state, with the numbers of a certificate that was accepted, and what they say of a
+/// formula. The only error is that memory ran out.
 pub fn audit_report(
     alloc: Global,
     question: &Question,
@@ -36,7 +36,7 @@ pub fn audit_report(
         (tree_of formula.now) plan.now answer.text.items answer.status) }
     ensures answer { IfOk result (λ answer. IsAnswer answer.status) }
 {
-    // What a question keeps, and two laws: these calls do nothing.
+    // These calls do nothing: they recall what a question keeps, and two laws.
     question.known();
     undecided_thresholds_are_left_open();
     mirrored_verdicts_are_those_of_the_dual();

@@ -1,7 +1,8 @@
-//! What `make` says of a game that a seed draws.
+//! This module makes what `make` says of a game that a seed draws.
 //!
 //! [`drawn_report`] writes one line on the bracket of its question: the number of states of value 0, and the sums of
-//! both tables where these are settled. That the line of settled tables is the same on every run is a law in `laws.rt`.
+//! the lower and the upper table if the run is settled. A law in `laws.rt` says that two settled runs of the same game
+//! have the same line.
 
 ghost use Rattle.std.specs.Prelude.{◌≡◌, ◌<◌, ◌^◌, IfOk, count_by};
 ghost use Rattle.std.specs.String.{string_bytes};
@@ -20,7 +21,7 @@ use run_answers::{Answer, Status};
 use std::alloc::{AllocError, Global};
 use std::thread::Threads;
 
-/// The bracket of the drawn question, and what it comes to. The only error is want of memory.
+/// Computes the bracket of the drawn question and summarises it. The only error is that memory ran out.
 pub fn drawn_report<R: Threads + Sync, G: Gate + Sync>(
     rt: &R,
     alloc: Global,
@@ -51,7 +52,7 @@ pub fn drawn_report<R: Threads + Sync, G: Gate + Sync>(
     write_summary(alloc, make, &found.zero, &found.bracket)
 }
 
-// The summary line of a bracket, and its status.
+// Writes the summary line of a bracket, with its status.
 fn write_summary(
     alloc: Global,
     make: &MakeWords,
@@ -75,7 +76,7 @@ fn write_summary(
     })
 }
 
-// The sums of both tables, where these are settled.
+// Writes the sums of the lower and the upper table if the run is settled.
 fn ending(alloc: Global, found: &Bracket) -> Result<String, AllocError>
     requires fits { (sum_of found.now.lower.items < 2 ^ 128) × (sum_of found.now.upper.items < 2 ^ 128) }
     ensures { IfOk result (λ end. string_bytes end ≡ ending found.now.stable found.now.lower.items
@@ -90,7 +91,7 @@ fn ending(alloc: Global, found: &Bracket) -> Result<String, AllocError>
     }
 }
 
-// The sum of a table, in units; over all states it is at most 10^21.
+// Sums a table, in units. The sum over all states is at most 10^21.
 fn sum_of(table: &[u64]) -> u128
     requires { sum_of table.now < 2 ^ 128 }
     ensures { result ≡ sum_of table.now }
@@ -98,7 +99,7 @@ fn sum_of(table: &[u64]) -> u128
     table.iter().map(|entry| u128::from(*entry)).sum()
 }
 
-// All is well where both tables are settled.
+// The status is `Fine` if the run is settled, and else `SomeUndecided`.
 fn status_made(stable: bool) -> Status
     ensures status { result ≡ status_made stable }
     ensures answer { IsAnswer result }

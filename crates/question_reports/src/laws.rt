@@ -1,4 +1,4 @@
-//! Laws of reports. Each function does nothing; its contract is the law.
+//! This module has the laws of reports. Each function does nothing: its contract is the law.
 
 ghost use Rattle.std.specs.Prelude.{◌≡◌, ◌<◌, ◌-◌, ℕ, List, slice_index};
 ghost use Rattle.game_model.specs.Bounds.{Reaches};
@@ -13,9 +13,9 @@ ghost use Rattle.question_reports.specs.Made.{IsMade};
 
 use bracket_engine::laws::{lower_tables_agree, settled_bases_agree, settled_upper_bounds_agree};
 
-/// Bounds that are mirrored when they are printed, of `G`, are sound: the lower one is at most 1 less every k-step
-/// value of the dual, and 1 less some k-step value, less any 1/m, is at most the upper one. So it is of every plan that
-/// passes, of a bracket and of a certificate of any origin.
+/// The bounds of `G`, which are mirrored when they are printed, are sound. The lower one is at most 1 less every k-step
+/// value of the dual. For any m there is a k-step value of the dual such that 1 less it, less 1/m, is at most the upper
+/// one. This holds of every plan that passes, whether it comes from a bracket or from a certificate of any origin.
 pub fn mirrored_bounds_are_sound()
     ensures { (q : Query) (plan : Plan) (s : ℕ) → HasStates plan (states q) → Passes q plan → IsSoundPlan q plan
         → s < states q → Reaches q (slice_index plan.lower.items s) unit s
@@ -23,8 +23,8 @@ pub fn mirrored_bounds_are_sound()
         × IsNearRest q s (unit - slice_index plan.lower.items s) }
 {}
 
-/// With status 0 the line of `make` is the same for the same seed and number of states, whatever the rounds that were
-/// asked for, the workers and their schedules.
+/// If the status is 0, the line of `make` is the same for the same seed and number of states, whatever the number of
+/// rounds that were asked for, the workers and their schedules.
 pub fn settled_games_agree()
     ensures { (seed states asked other_asked : ℕ) (text other : List ℕ) → IsMade seed states asked text Fine
         → IsMade seed states other_asked other Fine → text ≡ other }

@@ -1,10 +1,12 @@
-//! What is reported of a question that is posed, or drawn.
+//! This crate reports on a question that is posed, or drawn.
 //!
-//! [`bracket_report`] answers from a bracket, with its certificate where that is asked for; [`within_report`] and
-//! [`next_report`] from exactly so many steps; [`nested_report`] answers a formula with others inside; [`audit_report`]
-//! a question from a certificate that was accepted, whoever made it; [`solved_report`] from a plan that tables of a
-//! solver led to; [`sure_report`] lists the almost-sure states; and [`drawn_report`] is the line of `make`, on a
-//! question that a seed draws.
+//! - [`bracket_report`] answers a question from a bracket, with its certificate if that is asked for.
+//! - [`within_report`] and [`next_report`] answer from exactly as many steps as the formula names.
+//! - [`nested_report`] answers a formula with others inside.
+//! - [`audit_report`] answers a question from a certificate that was accepted, whoever made it.
+//! - [`solved_report`] answers a question from a plan that the tables of a solver led to.
+//! - [`sure_report`] lists the almost-sure states.
+//! - [`drawn_report`] makes the line of `make`, on a question that a seed draws.
 #![tactic(auto)]
 
 mod audits;

@@ -1,4 +1,4 @@
-//! The answer to a formula with others inside.
+//! This module makes the answer to a formula with others inside.
 
 ghost use Rattle.std.specs.Prelude.{◌≡◌, ◌<◌, ◌≤◌, ◌^◌, ◌++◌, All, IfOk, false, length, map};
 ghost use Rattle.std.specs.String.{string_bytes};
@@ -22,9 +22,9 @@ use std::alloc::{AllocError, Global};
 use std::thread::Threads;
 use verdicts::How;
 
-/// A line that says how many formulas stand inside and how many pairs of one and a state are left undecided, and a line
-/// for each of these initial states. Questions without a bound on the steps are answered in this way. The only error is
-/// want of memory.
+/// Writes a line that says how many formulas are inside and how many pairs of one of them and a state are left
+/// undecided, and then a line for each of these initial states. Questions without a bound on the steps are answered in
+/// this way. The only error is that memory ran out.
 pub fn nested_report<R: Threads + Sync, G: Gate + Sync>(
     rt: &R,
     alloc: Global,
@@ -55,20 +55,20 @@ pub fn nested_report<R: Threads + Sync, G: Gate + Sync>(
     ) else {
         return Err(OutOfMemory {});
     };
-    // What a game and the numbers keep: these calls do nothing.
+    // These calls do nothing: they recall what a game and the numbers keep.
     loaded.game.known();
     known_numbers(found.how, found.inner, found.undecided);
     written(alloc, loaded, &found)
 }
 
-// What numbers keep, since their types hold them.
+// The types of these numbers keep them within their limits.
 fn known_numbers(how: How, inner: u32, undecided: u32)
     ensures how { HasCount how }
     ensures inner { inner < 2 ^ 32 }
     ensures undecided { undecided < 2 ^ 32 }
 {}
 
-// The line about the formulas inside, and a line for each initial state.
+// Writes the line about the formulas inside, and a line for each initial state.
 fn written(alloc: Global, loaded: &Loaded, found: &Nested) -> Result<Answer, OutOfMemory>
     requires inside { All (λ s. s < length found.now.lower.items) found.now.initial.items }
     requires as_many { length found.now.upper.items ≡ length found.now.lower.items }
@@ -100,7 +100,7 @@ fn written(alloc: Global, loaded: &Loaded, found: &Nested) -> Result<Answer, Out
     })
 }
 
-// How many formulas stand inside, and how many pairs of one and a state are left undecided.
+// Writes how many formulas are inside, and how many pairs of one of them and a state are left undecided.
 fn inside_line(alloc: Global, inner: u32, undecided: u32) -> Result<String, AllocError>
     ensures { IfOk result (λ line. string_bytes line ≡ inside_text inner undecided) }
 {

@@ -1,4 +1,4 @@
-//! The answer to a question.
+//! This module makes the answer to a question.
 
 ghost use Rattle.std.specs.Prelude.{◌≡◌, ◌≤◌, ◌<◌, ◌++◌, All, IfOk, OnOk, length, map, slice_index};
 ghost use Rattle.game_model.specs.Query.{states};
@@ -30,17 +30,18 @@ use trap_sets::lower_traps_over;
 use verdicts::How;
 use verdicts::laws::{mirrored_verdicts_are_those_of_the_dual, undecided_thresholds_are_left_open};
 
-/// A formula as the words spell it, and the one whose question is answered: of `G` the dual, else the same.
+/// These are a formula as the words spell it, and the formula whose question is answered: for `G` its dual, else the
+/// same.
 #[derive(Clone, Copy)]
 pub struct Formulas<'a> {
     pub spelled: &'a Formula,
     pub answered: &'a Formula,
 }
 
-/// One line for each initial state, with the bounds after at most the asked rounds and what they say of the formula's
-/// bound; the upper ones lowered to the best exits of traps, where that is asked for; and behind them the certificate,
-/// where it is asked for. The question is that of the answered formula: of `G` the dual, else the same. The only error
-/// is want of memory.
+/// Writes one line for each initial state, with the bounds after at most the asked rounds and what they say of the
+/// formula's bound. The upper bounds are lowered to the best exits of traps if that is asked for. The certificate
+/// follows if it is asked for. The question is that of the answered formula, which for `G` is the dual, else the same.
+/// The only error is that memory ran out.
 pub fn bracket_report<R: Threads + Sync, G: Gate + Sync>(
     rt: &R,
     alloc: Global,
@@ -72,7 +73,7 @@ pub fn bracket_report<R: Threads + Sync, G: Gate + Sync>(
         check.workers,
         gate,
     )?;
-    // What a question keeps, and two laws: these calls do nothing.
+    // These calls do nothing: they recall what a question keeps, and two laws.
     question.known();
     undecided_thresholds_are_left_open();
     mirrored_verdicts_are_those_of_the_dual();
@@ -83,8 +84,8 @@ pub fn bracket_report<R: Threads + Sync, G: Gate + Sync>(
     make_answer(alloc, &plan, how, formulas, initial, check.plan)
 }
 
-// What is printed of a bracket: its tables with the strategies, and the upper one lowered to the best exits of traps,
-// where that is asked for.
+// Makes what is printed of a bracket: its tables with the strategies. The upper table is lowered to the best exits of
+// traps if that is asked for.
 fn shown(
     alloc: Global,
     question: &Question,
@@ -114,7 +115,7 @@ fn shown(
     })
 }
 
-// The upper table, lowered where that is asked for.
+// Lowers the upper table if that is asked for.
 fn shown_upper(
     alloc: Global,
     question: &Question,
@@ -136,7 +137,7 @@ fn shown_upper(
     }
 }
 
-/// The lines and the status of a plan, and its certificate where it is asked for.
+/// Makes the lines and the status of a plan, and its certificate if that is asked for.
 pub fn make_answer(
     alloc: Global,
     plan: &Plan,
@@ -172,12 +173,12 @@ pub fn make_answer(
     Ok(answer)
 }
 
-// What ranks keep, since their type holds them.
+// The type of ranks keeps them within their limit.
 fn known_ranks(ranks: &[u32])
     ensures { All (λ r. r ≤ greatest_rank) ranks.now }
 {}
 
-// Appends the formula and the certificate, where it is asked for.
+// Appends the formula and the certificate if they are asked for.
 fn append_certificate(
     alloc: Global,
     text: &mut Vec<u8>,

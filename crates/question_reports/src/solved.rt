@@ -1,4 +1,4 @@
-//! The answer of `solve`: a report of a plan that tables of a solver led to.
+//! This module makes the answer of `solve`: a report of a plan that the tables of a solver led to.
 
 ghost use Rattle.std.specs.Prelude.{◌≡◌, ◌<◌, All, IfOk};
 ghost use Rattle.game_model.specs.Query.{states};
@@ -19,10 +19,11 @@ use std::thread::Threads;
 use verdicts::How;
 use verdicts::laws::{mirrored_verdicts_are_those_of_the_dual, undecided_thresholds_are_left_open};
 
-/// One line for each initial state, with the bounds of a plan that passes an audit and is sound, and what they say of
-/// the formula's bound; and behind them the certificate, where it is asked for. Bounds that are far apart at an initial
-/// state are compared with those of rounds. The question is that of the answered formula: of `G` the dual, else the
-/// same. Values to begin with, one for each state, are hints alone. The only error is want of memory.
+/// Writes one line for each initial state, with the bounds of a plan that passes an audit and is sound, and what they
+/// say of the formula's bound. The certificate follows if it is asked for. If the bounds are far apart at an initial
+/// state, they are compared with those of rounds. The question is that of the answered formula, which for `G` is the
+/// dual, else the same. Values to begin with, one for each state, are only hints. The only error is that memory ran
+/// out.
 pub fn solved_report<R: Threads + Sync, G: Gate + Sync>(
     rt: &R,
     alloc: Global,
@@ -53,7 +54,7 @@ pub fn solved_report<R: Threads + Sync, G: Gate + Sync>(
         initial,
         gate,
     )?;
-    // What a question keeps, and two laws: these calls do nothing.
+    // These calls do nothing: they recall what a question keeps, and two laws.
     question.known();
     undecided_thresholds_are_left_open();
     mirrored_verdicts_are_those_of_the_dual();

@@ -1,4 +1,4 @@
-//! What `sure` says of a question: how many states reach a goal almost surely, and which.
+//! This module makes what `sure` says of a question: how many states reach a goal almost surely, and which.
 //!
 //! [`sure_report`] makes the text, `sure C of N` and a line for each of the C states, and says whether all initial
 //! states are among them.
@@ -14,16 +14,16 @@ use game_outside::OutOfMemory;
 use plan_text::{append, append_number};
 use std::alloc::Global;
 
-/// What `sure` says of a question.
+/// This is what `sure` says of a question.
 #[derive(Drop)]
 pub struct SureReport {
-    /// The text.
+    /// This is the text of the report.
     pub text: Vec<u8>,
-    /// Whether every initial state is listed.
+    /// This says whether every initial state is listed.
     pub all: bool,
 }
 
-/// The states from which a goal is reached almost surely, as text. The only error is want of memory.
+/// Lists the states from which a goal is reached almost surely, as text. The only error is that memory ran out.
 pub fn sure_report(
     alloc: Global,
     question: &Question,
@@ -42,7 +42,7 @@ pub fn sure_report(
     })
 }
 
-// The line `sure C of N`.
+// Appends the line `sure C of N`.
 fn append_head(text: &mut Vec<u8>, marks: &Marks, states: u32) -> Result<(), OutOfMemory>
     requires { length marks.now ≡ states }
     ensures { OnOk result (text.new.items ≡ text.old.items ++ head_line marks.now) }
@@ -54,7 +54,7 @@ fn append_head(text: &mut Vec<u8>, marks: &Marks, states: u32) -> Result<(), Out
     append(text, b"\n")
 }
 
-// A line for each marked state.
+// Appends a line for each marked state.
 fn append_marked(text: &mut Vec<u8>, marks: &Marks, states: u32) -> Result<(), OutOfMemory>
     requires { length marks.now ≡ states }
     ensures { OnOk result (text.new.items ≡ text.old.items ++ marked_lines marks.now) }
@@ -65,7 +65,7 @@ fn append_marked(text: &mut Vec<u8>, marks: &Marks, states: u32) -> Result<(), O
     Ok(())
 }
 
-// The line of a state, where it is marked.
+// Appends the line of a state if it is marked.
 fn append_if_marked(text: &mut Vec<u8>, marks: &Marks, state: u32) -> Result<(), OutOfMemory>
     requires { state < length marks.now }
     ensures { OnOk result (text.new.items ≡ text.old.items ++
@@ -78,7 +78,7 @@ fn append_if_marked(text: &mut Vec<u8>, marks: &Marks, state: u32) -> Result<(),
     append(text, b"\n")
 }
 
-// Whether all of these states are marked.
+// Returns whether all of these states are marked.
 fn all_marked(marks: &Marks, initial: &[u32]) -> bool
     requires { All (λ s. s < length marks.now) initial.now }
     ensures { result ≡ list_all (is_marked marks.now) initial.now }

@@ -1,4 +1,4 @@
-//! The answer to a problem with a bound on the steps: exactly so many are made.
+//! This module makes the answer to a problem with a bound on the steps: exactly that many are made.
 
 ghost use Rattle.std.specs.Prelude.{◌≡◌, ◌*◌, ◌<◌, ◌≤◌, ℕ, All, IfOk, false, length, slice_index};
 ghost use Rattle.game_model.specs.Limits.{unit};
@@ -24,7 +24,7 @@ use std::thread::Threads;
 use verdicts::How;
 use verdicts::laws::verdicts_of_fractions_are_right;
 
-/// The report on `F<=k` and `U<=k`: the values of so many steps. The only error is want of memory.
+/// Reports on `F<=k` and `U<=k` from the k-step values. The only error is that memory ran out.
 pub fn within_report<R: Threads + Sync, G: Gate + Sync>(
     rt: &R,
     alloc: Global,
@@ -41,7 +41,7 @@ pub fn within_report<R: Threads + Sync, G: Gate + Sync>(
         (tree_of formula.now) answer.text.items answer.status) }
     ensures answer { IfOk result (λ answer. IsAnswer answer.status) }
 {
-    // What a question keeps, and a law: these calls do nothing.
+    // These calls do nothing: they recall what a question keeps, and a law.
     posed.question.known();
     exact_values_are_k_step_values();
     let sweep = bounded_values(rt, alloc, &posed.question, steps, workers, gate)?;
@@ -55,8 +55,8 @@ pub fn within_report<R: Threads + Sync, G: Gate + Sync>(
     )
 }
 
-/// The report on `X`: the probabilities that the next state is one of those of an opening table. The only error is want
-/// of memory.
+/// Reports on `X` from the probabilities that the next state is one of those of an opening table. The only error is
+/// that memory ran out.
 pub fn next_report<R: Threads + Sync, G: Gate + Sync>(
     rt: &R,
     alloc: Global,
@@ -72,7 +72,7 @@ pub fn next_report<R: Threads + Sync, G: Gate + Sync>(
         posed.now.initial.items (tree_of formula.now) answer.text.items answer.status) }
     ensures answer { IfOk result (λ answer. IsAnswer answer.status) }
 {
-    // What a question keeps, and a law: these calls do nothing.
+    // These calls do nothing: they recall what a question keeps, and a law.
     posed.question.known();
     one_step_is_the_next_value();
     let question = &posed.question;
@@ -80,7 +80,7 @@ pub fn next_report<R: Threads + Sync, G: Gate + Sync>(
     sweep_report(alloc, question, &sweep, 1, &posed.initial, formula)
 }
 
-// The report of a sweep of so many steps, and what it says of any values that are exact.
+// Reports on a sweep of this many steps, and bounds any numerators that give its exact values.
 fn sweep_report(
     alloc: Global,
     question: &Question,
@@ -101,7 +101,7 @@ fn sweep_report(
         (tree_of formula.now) answer.text.items answer.status) }
     ensures answer { IfOk result (λ answer. IsAnswer answer.status) }
 {
-    // What a question keeps, and two laws: these calls do nothing.
+    // These calls do nothing: they recall what a question keeps, and two laws.
     question.known();
     rounded_steps_bracket_exact_values();
     verdicts_of_fractions_are_right();

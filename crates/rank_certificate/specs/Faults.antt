@@ -1,4 +1,4 @@
--- What is wrong with values, choices and ranks.
+-- This module defines the first fault of values, choices and ranks.
 use Rattle.std.specs.Prelude.{◌≡◌, ◌≢◌, ℕ, ◌<◌, ◌≤◌, ◌⊎◌, true, List, length, slice_index, slice_index_or, All, Option}
 use Rattle.std.specs.Prelude.{Some, None}
 use Rattle.game_model.specs.declared.game.Side.{Side}
@@ -12,16 +12,16 @@ use Rattle.rank_certificate.specs.declared.check.RankCause.{RankCause}
 use Rattle.rank_certificate.specs.declared.check.RankCause.TheVariants.{Value, Choice, Short, NoStep}
 use Rattle.rank_certificate.specs.Ranking.{IsEnough, IsShort, LeadsOnward, NeedsRank, HasChoice, IsRankedAt}
 
--- a goal whose value is not the unit, or a dead state whose value is not 0
+-- A goal does not have the unit as its value, or a dead state does not have 0.
 abbrev pub IsMisvalued : Query → (ℕ → ℕ) → ℕ → Type 0
 IsMisvalued q value s = ((is_goal q s ≡ true) × (value s ≢ unit)) ⊎ ((is_dead q s ≡ true) × (value s ≢ 0))
 
--- the choices that have to be ranked: the given one of the maximiser, and every one of the minimiser
+-- The given choice of the maximiser and every choice of the minimiser have to be ranked.
 abbrev pub HasToRank : Side → Option ℕ → ℕ → Type 0
 HasToRank Max given choice = given ≡ Some choice
 HasToRank Min given choice = Unit {0}
 
--- this choice has to be ranked, and each earlier one that has to be is
+-- This choice has to be ranked, and each earlier choice that has to be ranked is ranked.
 pub record IsNextToRank (q : Query) (value rank : ℕ → ℕ) (choices : List (Option ℕ)) (s choice : ℕ) : Type 0 where
   pub needs : NeedsRank q value s
   pub inside : choice < length (choices_of q.game s)
@@ -29,8 +29,8 @@ pub record IsNextToRank (q : Query) (value rank : ℕ → ℕ) (choices : List (
   pub before : (c : ℕ) → c < choice → HasToRank (side_at q s) (slice_index_or choices s None) c
       → IsRankedChoice value rank s (choice_of q.game s c)
 
--- what a choice lacks first: it falls short of the value, or gives it and leads to no greater value and to no equal one
--- of smaller rank
+-- A choice lacks this first: it falls short of the value, or it gives at least the value but leads to no greater value
+-- and to no equal one of smaller rank.
 abbrev pub IsLackOf : (ℕ → ℕ) → (ℕ → ℕ) → ℕ → Distribution → ℕ → RankCause → Type 0
 IsLackOf value rank s choice number Value = ⊥
 IsLackOf value rank s choice number Choice = ⊥
@@ -38,7 +38,7 @@ IsLackOf value rank s choice number (Short c) = (c ≡ number) × IsShort value 
 IsLackOf value rank s choice number (NoStep c) = (c ≡ number) × IsEnough value s choice
     × ¬ LeadsOnward value rank s choice
 
--- the first cause at a state
+-- This is the first cause at the state.
 abbrev pub IsCauseAt : Query → (ℕ → ℕ) → (ℕ → ℕ) → List (Option ℕ) → ℕ → RankCause → Type 0
 IsCauseAt q value rank choices s Value = IsMisvalued q value s
 IsCauseAt q value rank choices s Choice = NeedsRank q value s × (side_at q s ≡ Max) × ¬ HasChoice q choices s
@@ -47,7 +47,8 @@ IsCauseAt q value rank choices s (Short c) =
 IsCauseAt q value rank choices s (NoStep c) =
     IsNextToRank q value rank choices s c × IsLackOf value rank s (choice_of q.game s c) c (NoStep c)
 
--- entries are at most the unit, and this is the first state where they do not go together, and why
+-- All entries are at most the unit, and this is the first state where values, choices and ranks are refused, with its
+-- cause.
 pub record IsFirstUnranked (q : Query) (values : List ℕ) (choices : List (Option ℕ)) (ranks : List ℕ) (s : ℕ)
     (cause : RankCause) : Type 0 where
   pub units : All (λ v. v ≤ unit) values
@@ -55,7 +56,7 @@ pub record IsFirstUnranked (q : Query) (values : List ℕ) (choices : List (Opti
   pub caused : IsCauseAt q (slice_index values) (slice_index ranks) choices s cause
   pub before : (t : ℕ) → t < s → IsRankedAt q (slice_index values) (slice_index ranks) choices t
 
--- the one fault of values, choices and ranks: an entry above the unit comes first
+-- Values, choices and ranks have this one fault: an entry above the unit comes first.
 abbrev pub IsRankFault : Query → List ℕ → List (Option ℕ) → List ℕ → ℕ → RankCause → Type 0
 IsRankFault q values choices ranks s Value = IsFirstOver values s ⊎ IsFirstUnranked q values choices ranks s Value
 IsRankFault q values choices ranks s Choice = IsFirstUnranked q values choices ranks s Choice

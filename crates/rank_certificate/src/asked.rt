@@ -1,4 +1,4 @@
-//! What a search for ranks is about.
+//! A search for ranks is about a question and its values.
 
 ghost use Rattle.std.specs.Prelude.{◌≡◌, ◌≤◌, length, All, option_copied};
 ghost use Rattle.game_model.specs.Query.{IsQuery, states};
@@ -9,8 +9,8 @@ ghost use Rattle.rank_certificate.specs.Carrying.{AreOfStates};
 use game_model::Question;
 use predecessors::Predecessors;
 
-/// What a search for ranks is about: a question, its values in units, the choices of the maximiser where these are
-/// given, and for each state the moves that lead to it.
+/// A search for ranks is about a question, its values in units, the choices of the maximiser, if they are given, and
+/// for each state the moves that lead to it.
 #[derive(Clone, Copy)]
 pub struct Asked<'a> {
     pub question: &'a Question<'a>,
@@ -28,7 +28,7 @@ impl Asked<'_> {
     ghost use Rattle.std.specs.Prelude.{ℕ, ◌<◌, ◌↔◌, IsTrue};
     ghost use Rattle.rank_certificate.specs.inside.OfAsked.{states_in, NeedsRankIn};
 
-    /// Whether a state has a positive value and is neither goal nor dead.
+    /// Returns whether a state has a positive value and is neither goal nor dead.
     pub fn needs_rank(&self, state: u32) -> bool
         requires { state < states_in self.now }
         ensures { IsTrue result ↔ NeedsRankIn self.now state }

@@ -1,4 +1,4 @@
-//! Which choices carry a value on to what was found.
+//! This module finds the choices that carry a state into the states whose ranks were found.
 
 ghost use Rattle.std.specs.Prelude.{◌<◌, ◌↔◌, length, IsTrue};
 ghost use Rattle.rank_certificate.specs.inside.Growth.{HasRankWithin};
@@ -17,7 +17,7 @@ impl Asked<'_> {
     ghost use Rattle.rank_certificate.specs.Carrying.{MayTake};
     ghost use Rattle.rank_certificate.specs.inside.OfAsked.{states_in, value_in, only_in, CarriesIn, IsFirstCarryingIn};
 
-    /// The first choice of a state that carries it on ([`Asked::carries`]), of those below a limit.
+    /// Returns the first choice below a limit that carries a state ([`Asked::carries`]).
     pub fn first_carrying(
         &self,
         row: &Row<'_>,
@@ -42,7 +42,7 @@ impl Asked<'_> {
         None
     }
 
-    /// A choice of a state below which none may be taken: the given one of the maximiser, and else 0.
+    /// Returns a number such that no choice below it may be taken: the given choice of the maximiser, or else 0.
     fn first_taken(&self, state: u32) -> u32
         requires { state < states_in self.now }
         ensures { (value : ℕ → ℕ) (c : ℕ) → c < result
@@ -57,7 +57,7 @@ impl Asked<'_> {
         }
     }
 
-    /// Whether every choice of a state does so.
+    /// Returns whether every choice of a state carries it ([`Asked::carries`]).
     pub fn all_carry(&self, row: &Row<'_>, ranks: &[Option<u32>], level: u32, state: u32) -> bool
         requires state { state < states_in self.now }
         requires row { row.now ≡ choices_of self.now.question.now.game state }
@@ -73,9 +73,9 @@ impl Asked<'_> {
         true
     }
 
-    /// Whether a choice of a state may be taken, and leads to a greater value, or to an equal one with a rank found.
-    /// Where choices of the maximiser are given, these may be taken and each of the minimiser; where none are, each
-    /// that gives its state the value.
+    /// Returns whether a choice of a state may be taken, and leads to a greater value, or to an equal one whose rank
+    /// was found. If choices of the maximiser are given, these may be taken and each choice of the minimiser. If none
+    /// are given, each choice that gives its state at least the value may be taken.
     pub fn carries(
         &self,
         row: &Row<'_>,
@@ -101,7 +101,7 @@ impl Asked<'_> {
         }
     }
 
-    /// Whether a choice has to be ranked: the given one of the maximiser, and each of the minimiser.
+    /// Returns whether a choice has to be ranked: the given one of the maximiser, and each of the minimiser.
     fn is_asked(&self, choices: &[Option<u32>], state: u32, choice: u32) -> bool
         requires state { state < states_in self.now }
         requires choices { length choices.now ≡ states_in self.now }
@@ -114,7 +114,7 @@ impl Asked<'_> {
         }
     }
 
-    /// Whether a choice gives its state the value.
+    /// Returns whether a choice gives its state at least the value.
     fn pays(&self, row: &Row<'_>, state: u32, choice: u32) -> bool
         requires state { state < states_in self.now }
         requires row { row.now ≡ choices_of self.now.question.now.game state }
@@ -125,7 +125,7 @@ impl Asked<'_> {
         gives(row, choice, self.values, self.values[state as usize])
     }
 
-    /// Whether a choice has a successor of greater value, or of equal value and a rank found.
+    /// Returns whether a choice has a successor of greater value, or one of equal value whose rank was found.
     fn leads_low(
         &self,
         row: &Row<'_>,
@@ -152,7 +152,7 @@ impl Asked<'_> {
     }
 }
 
-/// Whether a rank was found for a state, and is this one or less.
+/// Returns whether a rank was found for a state, and is this one or less.
 fn is_low(ranks: &[Option<u32>], level: u32, state: u32) -> bool
     requires { state < length ranks.now }
     ensures { IsTrue result ↔ HasRankWithin ranks.now level state }

@@ -1,4 +1,4 @@
-//! Whether values, choices and ranks go together.
+//! The check says whether choices and ranks prove values.
 
 ghost use Rattle.std.specs.Prelude.{◌≡◌, ◌<◌, ◌≤◌, ◌↔◌, length, slice_index, All, IsOk, IfErr, MatchOption};
 ghost use Rattle.game_model.specs.declared.game.Side.TheVariants.{Max, Min};
@@ -13,41 +13,41 @@ use crate::choice::check_choice;
 use crate::laws::ranks_reach;
 use game_model::{Question, Side, UNIT};
 
-/// Why values, choices and ranks are refused at a state.
+/// Values, choices and ranks are refused at a state for one of these causes.
 #[derive(Clone, Copy, Debug, PartialEq, Eq)]
 pub enum RankCause {
     /// The value is above the unit, or the state is a goal and its value is not the unit, or it is dead and its
     /// value is not 0.
     Value,
-    /// The state of the maximiser has no choice, or one out of range.
+    /// The state of the maximiser has no choice, or its choice is out of range.
     Choice,
     /// The weighted average of the choice is below the value.
     Short {
-        /// The choice.
+        /// This is the choice.
         choice: u32,
     },
     /// No successor of the choice has a greater value, or an equal one and a smaller rank.
     NoStep {
-        /// The choice.
+        /// This is the choice.
         choice: u32,
     },
 }
 
-/// The first fault of values, choices and ranks.
+/// Values, choices and ranks have a first fault.
 #[derive(Clone, Copy, Debug, PartialEq, Eq)]
 pub struct RankFault {
-    /// The state.
+    /// This is the state.
     pub state: u32,
-    /// What is wrong there.
+    /// This is what is wrong there.
     pub cause: RankCause,
 }
 
-/// Checks values in units, choices and ranks, one of each a state: goals have the unit and dead states 0, and
-/// where another state has a positive value, the choice of the maximiser, or every choice of the minimiser, has
-/// at least this weighted average and leads to a greater value, or to an equal one of smaller rank. Then
-/// the plan of the choices reaches the values, less any 1/m, at some horizon. The choices and ranks of other
-/// states are not read, but for the ranks of successors. A value above the unit, at any state, comes before
-/// every other fault. It takes no memory.
+/// Checks values in units, choices and ranks, one of each for each state. Goals need the unit and dead states 0. If
+/// another state has a positive value, the choice of the maximiser, or every choice of the minimiser, needs at least
+/// this weighted average, and has to lead to a greater value or to an equal one of smaller rank. Then the plan of the
+/// choices reaches the values, less any 1/m, at some horizon. The choices and ranks of other states are not read,
+/// except the ranks of successors. A value above the unit, at any state, comes before every other fault. The check
+/// takes no memory.
 pub fn check_ranks(
     question: &Question,
     values: &[u64],
@@ -78,7 +78,7 @@ pub fn check_ranks(
     Ok(())
 }
 
-/// The first state whose entry is above the unit.
+/// Returns the first state whose entry is above the unit.
 pub fn first_over(values: &[u64]) -> Option<u32>
     requires { length values.now ≤ most_states }
     ensures { MatchOption result (All (λ v. v ≤ unit) values.now) (IsFirstOver values.now) }

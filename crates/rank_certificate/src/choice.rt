@@ -1,4 +1,4 @@
-//! Whether a choice is ranked.
+//! The check of a choice says whether it is ranked.
 
 ghost use Rattle.std.specs.Prelude.{◌≡◌, ◌<◌, ◌≤◌, ◌↔◌, length, slice_index, All, IsTrue, IsOk, IfErr};
 ghost use Rattle.game_model.specs.Game.{choices_of, choice_of};
@@ -12,7 +12,8 @@ use crate::check::RankCause;
 use fixed_bellman::gives;
 use game_model::Question;
 
-/// Checks that a choice gives its state the value, and leads on from there.
+/// Checks that a choice gives its state at least the value, and that it leads to a greater value or to an equal one of
+/// smaller rank.
 pub fn check_choice(
     question: &Question,
     values: &[u64],
@@ -40,7 +41,7 @@ pub fn check_choice(
     Ok(())
 }
 
-/// Whether a choice has a successor of greater value, or of equal value and smaller rank.
+/// Returns whether a choice has a successor of greater value, or of equal value and smaller rank.
 fn leads_onward(question: &Question, values: &[u64], ranks: &[u32], state: u32, choice: u32) -> bool
     requires values { length values.now ≡ states question.now }
     requires ranks { length ranks.now ≡ states question.now }
@@ -59,7 +60,7 @@ fn leads_onward(question: &Question, values: &[u64], ranks: &[u32], state: u32, 
     false
 }
 
-/// Whether a state has a greater value than another, or an equal one and a smaller rank.
+/// Returns whether `to` has a greater value than `state`, or an equal value and a smaller rank.
 fn is_onward(values: &[u64], ranks: &[u32], state: u32, to: u32) -> bool
     requires ranks { length ranks.now ≡ length values.now }
     requires state { state < length values.now }

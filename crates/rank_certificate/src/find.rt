@@ -1,4 +1,4 @@
-//! The layered ranks of values and choices.
+//! This module finds the layered ranks of values and choices.
 
 ghost use Rattle.std.specs.Prelude.{◌≡◌, length, IfOk};
 ghost use Rattle.game_model.specs.Query.{states};
@@ -12,11 +12,11 @@ use game_outside::OutOfMemory;
 use predecessors::Predecessors;
 use std::alloc::Global;
 
-/// The layered ranks of values and choices that some ranks vouch for: 0 at goals, dead states and states of
-/// value 0; elsewhere the least number from 1 up such that the choice of the maximiser, or every choice of
-/// the minimiser, has a successor of greater value, or one of equal value and smaller rank. They vouch for the
-/// values and choices ([`crate::check_ranks`]). The search is that of [`crate::rank_table`], where the maximiser may
-/// take these choices alone; the time is no part of the contract. The only error is want of memory.
+/// Returns the layered ranks of values and choices that can be ranked. They prove the values with the choices
+/// ([`crate::check_ranks`]). A rank is 0 at goals, dead states and states of value 0. Elsewhere it is the least number
+/// from 1 up such that the choice of the maximiser, or every choice of the minimiser, has a successor of greater value,
+/// or one of equal value and smaller rank. The search is that of [`crate::rank_table`], except that the maximiser may
+/// take only these choices. The time is no part of the contract. The only error is that memory ran out.
 pub fn find_ranks(
     alloc: Global,
     question: &Question,
@@ -33,8 +33,8 @@ pub fn find_ranks(
     find_ranks_over(alloc, question, values, choices, &predecessors)
 }
 
-/// The ranks of [`find_ranks`], over the predecessors in the question's game, for a caller that has these lists. The
-/// only error is want of memory.
+/// Returns the ranks of [`find_ranks`] for a caller that has the lists of predecessors of the question's game. The only
+/// error is that memory ran out.
 pub fn find_ranks_over(
     alloc: Global,
     question: &Question,

@@ -1,4 +1,4 @@
-//! Ranks and choices by layers, found backward from the states that need none.
+//! Ranks and choices are found by layers, backward from the states that need none.
 
 ghost use Rattle.std.specs.Prelude.{◌≡◌, ℕ, ◌+◌, ◌^◌, ◌<◌, ◌≤◌, List, [], ◌∷◌, ◌++◌, length, slice_index_or, slice_set, Some, None, IfOk, OnOk};
 ghost use Rattle.game_model.specs.declared.game.Side.TheVariants.{Max};
@@ -12,7 +12,7 @@ use game_outside::OutOfMemory;
 use predecessors::Move;
 use std::alloc::Global;
 
-/// The ranks found; the choices of the maximiser for them; and the states with a rank in the order in which
+/// These are the ranks found, the choices of the maximiser for them, and the states with a rank in the order in which
 /// they were found.
 #[derive(Drop)]
 pub struct Growth {
@@ -21,14 +21,14 @@ pub struct Growth {
     pub order: Vec<u32>,
 }
 
-/// From a layer of fewer than one in so many states the moves to its states are followed.
+/// If a layer has fewer than one in this many of the states, the moves to its states are followed.
 const STATES_FOR_A_PASS: usize = 16;
 
 impl Growth {
     ghost use Rattle.rank_certificate.specs.inside.Growth.{IsOpened};
     ghost use Rattle.rank_certificate.specs.inside.OfAsked.{states_in, value_in, IsGrowthIn, IsApartIn, LooksIn, FollowsIn, AreFollowedIn};
 
-    /// The states that need no rank, in layer 0.
+    /// Puts the states that need no rank in layer 0.
     pub fn of_unneeded(alloc: Global, asked: &Asked<'_>) -> Result<Growth, OutOfMemory>
         ensures opened { IfOk result (λ g. IsOpened asked.now.question.now (value_in asked.now) (states_in asked.now)
             g.ranks.items g.order.items) }
@@ -55,8 +55,8 @@ impl Growth {
         })
     }
 
-    /// The next layer, of a layer that stands in the order from one place up to another: where that has many states,
-    /// each state is looked at, and else the moves to these states are followed.
+    /// Finds the next layer. The states of the last layer have the places from `begin` to `end` in the order. If they
+    /// are many, each state is looked at; else the moves to them are followed.
     pub fn advance(
         &mut self,
         asked: &Asked<'_>,
@@ -82,7 +82,7 @@ impl Growth {
         Ok(())
     }
 
-    /// Looks at each state: where it has no rank and is carried into the layer, it joins the next one.
+    /// Looks at each state: if it has no rank and is carried into the layer, it joins the next layer.
     pub fn look_at_all(&mut self, asked: &Asked<'_>, level: u32) -> Result<(), OutOfMemory>
         requires level { level + 1 < 2 ^ 32 }
         requires ranks { length self.old.ranks.items ≡ states_in asked.now }
@@ -98,7 +98,7 @@ impl Growth {
         Ok(())
     }
 
-    /// Follows all moves to the states of a layer, which stand in the order from one place up to another.
+    /// Follows all moves to the states of a layer, which have the places from `begin` to `end` in the order.
     fn spread(
         &mut self,
         asked: &Asked<'_>,
@@ -136,8 +136,8 @@ impl Growth {
         Ok(())
     }
 
-    /// Follows a move: looks at its state where that has the value of the state at hand and no rank; at a state of the
-    /// maximiser the choice of the move alone can carry it now.
+    /// Follows a move: looks at its state if that has the value of the state at hand and no rank. At a state of the
+    /// maximiser only the choice of the move can now carry it.
     fn follow(
         &mut self,
         asked: &Asked<'_>,
@@ -168,8 +168,8 @@ impl Growth {
         }
     }
 
-    /// Follows a move of the maximiser from a state without a rank: where its choice carries the state, the state joins
-    /// the next layer, with the first choice that does.
+    /// Follows a move of the maximiser from a state without a rank: if its choice carries the state, the state joins
+    /// the next layer, with the first choice that carries it.
     fn take(
         &mut self,
         asked: &Asked<'_>,
@@ -195,7 +195,7 @@ impl Growth {
         Ok(())
     }
 
-    /// Looks at a state: where it has no rank and is carried into the layer, it joins the next one.
+    /// Looks at a state: if it has no rank and is carried into the layer, it joins the next layer.
     fn look(&mut self, asked: &Asked<'_>, level: u32, state: u32) -> Result<(), OutOfMemory>
         requires level { level + 1 < 2 ^ 32 }
         requires ranks { length self.old.ranks.items ≡ states_in asked.now }
@@ -223,7 +223,7 @@ impl Growth {
         Ok(())
     }
 
-    /// A state joins the next layer, with this choice.
+    /// Adds a state to the next layer, with this choice.
     fn join(&mut self, level: u32, state: u32, choice: Option<u32>) -> Result<(), OutOfMemory>
         requires level { level + 1 < 2 ^ 32 }
         requires ranks { state < length self.old.ranks.items }

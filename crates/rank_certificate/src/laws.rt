@@ -1,4 +1,4 @@
-//! Laws of ranked tables. No function here does anything: its contract is the law.
+//! This module has the laws of ranked tables. Each function does nothing: its contract is the law.
 
 ghost use Rattle.std.specs.Prelude.{◌≡◌, ℕ, ◌<◌, true, List, Option, None, length, slice_index, slice_index_or};
 ghost use Rattle.game_model.specs.declared.game.Side.TheVariants.{Min};
@@ -12,8 +12,8 @@ ghost use Rattle.rank_certificate.specs.Carrying.{IsLayeredPlan};
 
 use game_model::Question;
 
-/// Where values, choices and ranks go together, the plan of the choices reaches the values, less any 1/m, at
-/// some horizon: at one horizon for all states.
+/// If choices and ranks prove values, the plan of the choices reaches the values, less any 1/m, at one horizon for all
+/// states.
 pub fn ranked_values_are_reached()
     ensures { (q : Query) (values : List ℕ) (choices : List (Option ℕ)) (ranks : List ℕ) →
         IsQuery q → Ranked q values choices ranks → ReachesUnder q choices (slice_index values) }
@@ -35,8 +35,7 @@ pub fn ranks_reach(question: &Question, values: &[u64], choices: &[Option<u32>],
     question.known();
 }
 
-/// Where values, choices and ranks go together, k-step values come as near to the values as one likes, at all
-/// states at once.
+/// If choices and ranks prove values, k-step values come as near to the values as one likes, at all states at once.
 pub fn ranked_values_are_near()
     ensures { (q : Query) (values : List ℕ) (choices : List (Option ℕ)) (ranks : List ℕ) →
         IsQuery q → Ranked q values choices ranks → IsNear q (slice_index values) }
@@ -63,7 +62,7 @@ pub fn layered_plans_are_layered(
     question.known();
 }
 
-/// A layered plan has no choice at a goal, at a dead state, at a state of the minimiser and at one of value 0.
+/// A layered plan has no choice at a goal, a dead state, a state of the minimiser and a state of value 0.
 pub fn layered_plans_choose(
     question: &Question,
     values: &[u64],

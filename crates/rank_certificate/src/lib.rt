@@ -1,15 +1,16 @@
-//! Ranks that vouch for a lower table: with a choice and a rank for each state, values of units are shown to
-//! be reached.
+//! Choices and ranks prove that values in units are reached: they are a certificate of a lower table.
 //!
-//! [`check_ranks`] tests that each positive value is paid for by a choice that leads on, to a greater value or
-//! to an equal one of smaller rank, and else names the first fault. Then the plan of the choices comes as near
-//! to the values as one likes ([`laws::ranked_values_are_reached`]). Such a rank is a ranking function for
-//! probabilistic reachability (as certificates of lower bounds: Chatterjee, Quatmann, Schaeffeler, Weininger,
-//! Winkler and Zilken, Fixed point certificates for reachability and expected rewards in MDPs, TACAS 2025). The
-//! check takes no memory. [`find_ranks`] gives the least such ranks, layer by layer, where there are any.
-//! [`find_ranks_over`] does so over lists of predecessors that the caller has.
+//! [`check_ranks`] looks at each state of positive value that is neither goal nor dead. There it tests the given choice
+//! of the maximiser, or every choice of the minimiser. The weighted average of such a choice has to be at least the
+//! value, and the choice has to lead to a greater value or to an equal one of smaller rank. If not, the check names the
+//! first fault. The plan of checked choices comes as near to the values as one likes
+//! ([`laws::ranked_values_are_reached`]). Such a rank is a ranking function for probabilistic reachability (as
+//! certificates of lower bounds: Chatterjee, Quatmann, Schaeffeler, Weininger, Winkler and Zilken, Fixed point
+//! certificates for reachability and expected rewards in MDPs, TACAS 2025). The check takes no memory. [`find_ranks`]
+//! gives the least such ranks, layer by layer, if there are any. [`find_ranks_over`] does so over lists of predecessors
+//! that the caller has.
 //!
-//! [`rank_table`] finds choices and ranks for values alone, or shows that there are none at all.
+//! [`rank_table`] is given only values: it finds choices and ranks for them, or shows that there are none at all.
 #![tactic(auto)]
 
 mod asked;

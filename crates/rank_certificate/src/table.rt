@@ -1,4 +1,4 @@
-//! The plan that makes values ranked.
+//! This module finds the plan of choices and ranks that proves values.
 
 ghost use Rattle.std.specs.Prelude.{◌≡◌, ℕ, ◌<◌, ◌≤◌, ◌↔◌, length, slice_index, slice_index_or, All, Some, None, IfOk, IfSome, IsTrue, MatchOption, option_copied};
 ghost use Rattle.game_model.specs.Query.{states};
@@ -18,23 +18,24 @@ use game_outside::OutOfMemory;
 use predecessors::Predecessors;
 use std::alloc::Global;
 
-/// Choices and ranks, one of each a state.
+/// A plan has a choice, if one is needed, and a rank for each state.
 #[derive(Drop)]
 pub struct RankPlan {
-    /// The choice of each state of the maximiser that has a positive value and is no goal; none at other states.
+    /// Each state of the maximiser that has a positive value and is no goal has a choice. Other states have none.
     pub choices: Vec<Option<u32>>,
-    /// The ranks.
+    /// Each state has a rank.
     pub ranks: Vec<u32>,
 }
 
-/// The plan that makes values in units ranked ([`crate::check_ranks`]), with the least ranks; none exactly where no
-/// choices and ranks at all do. A rank is 0 at goals, dead states and states of value 0. Elsewhere it is the
-/// least number from 1 up such that some choice of the maximiser, or every choice of the minimiser, gives the
-/// value and has a successor of greater value, or one of equal value and smaller rank. The maximiser takes the
-/// first such choice there, and has none elsewhere. A state whose down step is below its value refuses the
-/// values at once. Else the search goes backward from the states of rank 0: it looks at a state again only when
-/// a successor got a rank, or a large part of all states did. The time is no part of the contract. The only
-/// error is want of memory.
+/// Returns the plan that proves values in units ([`crate::check_ranks`]), with the least ranks. It returns none exactly
+/// if no choices and ranks prove them. A rank is 0 at goals, dead states and states of value 0. Elsewhere it is the
+/// least number from 1 up such that some choice of the maximiser, or every choice of the minimiser, gives at least the
+/// value and has a successor of greater value, or one of equal value and smaller rank. The maximiser takes the first
+/// such choice there, and has none elsewhere.
+///
+/// A state whose down step is below its value refuses the values at once. If there is no such state, the search goes
+/// backward from the states of rank 0: it looks at a state again only when a successor got a rank, or a large part of
+/// all states did. The time is no part of the contract. The only error is that memory ran out.
 pub fn rank_table(
     alloc: Global,
     question: &Question,
@@ -50,8 +51,8 @@ pub fn rank_table(
     rank_table_over(alloc, question, values, &predecessors)
 }
 
-/// The plan of [`rank_table`], over the predecessors in the question's game, for a caller that has these lists. The
-/// only error is want of memory.
+/// Returns the plan of [`rank_table`] for a caller that has the lists of predecessors of the question's game. The only
+/// error is that memory ran out.
 pub fn rank_table_over(
     alloc: Global,
     question: &Question,
@@ -75,8 +76,8 @@ pub fn rank_table_over(
     rank_standing(alloc, question, values, predecessors)
 }
 
-/// The plan of [`rank_table_over`], for values in units of which the caller knows that each state stands: it has what
-/// its kind asks, and its down step is not below its value. The only error is want of memory.
+/// Returns the plan of [`rank_table_over`] for a caller that knows that no state refuses the values at once: a goal has
+/// the unit, and no down step is below its value. The only error is that memory ran out.
 pub fn rank_standing(
     alloc: Global,
     question: &Question,
@@ -103,7 +104,7 @@ pub fn rank_standing(
     }))
 }
 
-/// The ranks of all layers, and the choices for them; where choices are given, of these alone.
+/// Finds the ranks of all layers, and the choices for them. If choices are given, it takes only these.
 pub fn whole_growth(
     alloc: Global,
     question: &Question,
@@ -128,7 +129,7 @@ pub fn whole_growth(
     all_layers(alloc, &asked)
 }
 
-/// The ranks of all layers, and the choices for them.
+/// Finds the ranks of all layers, and the choices for them.
 fn all_layers(alloc: Global, asked: &Asked<'_>) -> Result<Growth, OutOfMemory>
     ensures { IfOk result (λ g. IsGrownIn asked.now g) }
 {
@@ -145,7 +146,7 @@ fn all_layers(alloc: Global, asked: &Asked<'_>) -> Result<Growth, OutOfMemory>
     Ok(growth)
 }
 
-/// The ranks as numbers; none where a state has none.
+/// Returns the ranks as numbers, or none if a state has no rank.
 pub fn all_ranks(alloc: Global, ranks: &[Option<u32>]) -> Result<Option<Vec<u32>>, OutOfMemory>
     ensures { IfOk result (λ found. MatchOption found ((s : ℕ) × (s < length ranks.now)
         × (slice_index_or ranks.now s None ≡ None))
@@ -163,7 +164,7 @@ pub fn all_ranks(alloc: Global, ranks: &[Option<u32>]) -> Result<Option<Vec<u32>
     Ok(Some(numbers))
 }
 
-/// Whether no state refuses the values at sight.
+/// Returns whether no state refuses the values at once.
 fn all_stand(question: &Question, values: &[u64]) -> bool
     requires values { length values.now ≡ states question.now }
     requires units { All (λ v. v ≤ unit) values.now }
@@ -177,7 +178,7 @@ fn all_stand(question: &Question, values: &[u64]) -> bool
     true
 }
 
-/// Whether a state does not refuse them.
+/// Returns whether a state does not refuse the values at once.
 fn stands(question: &Question, values: &[u64], state: u32) -> bool
     requires values { length values.now ≡ states question.now }
     requires units { All (λ v. v ≤ unit) values.now }

@@ -1,4 +1,4 @@
--- What a certificate of rewards says, and what it promises.
+-- A certificate of rewards has these entries. It is sound if they bound what the game is worth.
 use Rattle.std.specs.Prelude.{ℕ, ◌+◌, Bool, List, Option, slice_index}
 use Rattle.game_model.specs.Game.{Distribution, choices_below}
 use Rattle.game_model.specs.Query.{Query}
@@ -6,13 +6,13 @@ use Rattle.expected_rewards.specs.Rewards.{Rewards}
 use Rattle.expected_rewards.specs.Promises.{AreRewardBounds}
 use Rattle.reward_check.specs.declared.tables.RewardTables.{RewardTables}
 
--- the rewards of a list that has one for each choice, state by state, and 0 behind its end
+-- The list has the reward of each choice, state by state. A choice after its end has the reward 0.
 abbrev pub flat_rewards : List (List Distribution) → List ℕ → Rewards
 flat_rewards game flat s c = slice_index flat (choices_below game s + c)
 
--- a question, its rewards rounded down and rounded up, and for each state: whether its lower value is a number (else it
--- is infinite), whether its upper value is a number (else there is none), both values, the choice of the maximiser, the
--- reply of the minimiser, and the rank
+-- A certificate has a question, and its rewards rounded down and rounded up. For each state it says whether the lower
+-- value is a number (else it is infinite), and whether the upper value is a number (else there is none). Each state
+-- also has both values, the choice of the maximiser, the reply of the minimiser, and the rank.
 pub record Certificate : Type 0 where
   pub question : Query
   pub low : Rewards
@@ -25,7 +25,7 @@ pub record Certificate : Type 0 where
   pub replies : List (Option ℕ)
   pub ranks : List ℕ
 
--- what lists in memory say
+-- The lists in memory say this certificate.
 abbrev pub said : RewardTables → Certificate
 said t = record {
   question = t.question.now;
@@ -40,6 +40,6 @@ said t = record {
   ranks = t.ranks.now;
 }
 
--- its values bound what the game is worth, by its replies and its choices
+-- The values bound what the game is worth, by the replies and the choices.
 abbrev pub IsSound : Certificate → Type 0
 IsSound c = AreRewardBounds c.question c.low c.high c.finite c.bounded c.choices c.replies c.lower c.upper

@@ -1,4 +1,4 @@
--- What is wrong with a certificate of rewards.
+-- This module defines the first fault of a certificate of rewards.
 use Rattle.std.specs.Prelude.{◌≡◌, ℕ, ◌+◌, ◌*◌, ◌<◌, ◌⊎◌, true, slice_index}
 use Rattle.game_model.specs.Game.{Distribution, choice_of}
 use Rattle.game_model.specs.Query.{states, is_goal, side_at}
@@ -13,15 +13,15 @@ use Rattle.reward_check.specs.Certificates.{Certificate}
 use Rattle.reward_check.specs.Parts.{HasZeros, GoalsHaveZeros, planner_of, LooksAt, HasChoice, HasPlan, IsTaken}
 use Rattle.reward_check.specs.Parts.{LeadsDown, IsRight, IsPassedAt, IsPassed}
 
--- the reward of a choice and the weighted average behind it are above an entry
+-- The reward of the choice plus its weighted average over a table is above an entry.
 abbrev pub IsOver : (ℕ → ℕ) → ℕ → ℕ → Distribution → Type 0
 IsOver table entry reward choice = entry * choice.total < reward * choice.total + weighted_sum table choice.edges
 
--- they are below it
+-- The reward of the choice plus its weighted average over a table is below an entry.
 abbrev pub IsShort : (ℕ → ℕ) → ℕ → ℕ → Distribution → Type 0
 IsShort table entry reward choice = reward * choice.total + weighted_sum table choice.edges < entry * choice.total
 
--- what a part finds that a choice lacks first
+-- This is the first thing that a part finds lacking in a choice.
 abbrev pub IsLackOf : Part → Certificate → ℕ → ℕ → RewardCause → Type 0
 IsLackOf Upper c s k cause =
     ((cause ≡ Leaves k) × LeadsAway c.bounded (choice_of c.question.game s k))
@@ -36,21 +36,22 @@ IsLackOf Infinite c s k cause =
     (cause ≡ Away k) × ¬ Sinks c.finite (slice_index c.ranks) s (choice_of c.question.game s k)
     × ¬ Lingers c.finite (slice_index c.ranks) s (choice_of c.question.game s k)
 
--- the cause where a plan has no choice in range
+-- If a plan has no choice in range, this is the cause.
 abbrev pub missing_of : Part → RewardCause
 missing_of Upper = Reply
 missing_of Ranks = Reply
 missing_of Lower = Choice
 missing_of Infinite = Choice
 
--- a part looks at a state where the planner is to move and has no choice in range
+-- A part looks at a state where the planner is to move and has no choice in range.
 pub record IsPlanless (part : Part) (c : Certificate) (s : ℕ) (cause : RewardCause) : Type 0 where
   pub looked : LooksAt part c s
   pub own : side_at c.question s ≡ planner_of part
   pub none : ¬ HasChoice part c s
   pub named : cause ≡ missing_of part
 
--- the first choice that is not right, of those that may be taken at a state that a part looks at, and what it lacks
+-- This is the first choice that is not right, of those that may be taken at a state that a part looks at, and it lacks
+-- this.
 pub record IsFirstWrong (part : Part) (c : Certificate) (s k : ℕ) (cause : RewardCause) : Type 0 where
   pub looked : LooksAt part c s
   pub planned : HasPlan part c s
@@ -58,33 +59,33 @@ pub record IsFirstWrong (part : Part) (c : Certificate) (s k : ℕ) (cause : Rew
   pub before : (j : ℕ) → j < k → IsTaken part c s j → IsRight part c s j
   pub lack : IsLackOf part c s k cause
 
--- the first state that a part does not pass, and why: the plan comes before the choices
+-- This is the first state that a part does not pass, with the cause: the plan comes before the choices.
 pub record IsFirstUnpassed (part : Part) (c : Certificate) (s : ℕ) (cause : RewardCause) : Type 0 where
   pub inside : s < states c.question
   pub before : (t : ℕ) → t < s → IsPassedAt part c t
   pub caused : IsPlanless part c s cause ⊎ ((k : ℕ) × IsFirstWrong part c s k cause)
 
--- the first goal whose values are not both 0
+-- This is the first goal whose values are not both 0.
 pub record IsFirstGoalFault (c : Certificate) (s : ℕ) : Type 0 where
   pub inside : s < states c.question
   pub goal : is_goal c.question s ≡ true
   pub none : ¬ HasZeros c s
   pub before : (t : ℕ) → t < s → is_goal c.question t ≡ true → HasZeros c t
 
--- the place of a part in their order
+-- Each part has a place in their order.
 abbrev pub place_of : Part → ℕ
 place_of Upper = 0
 place_of Ranks = 1
 place_of Lower = 2
 place_of Infinite = 3
 
--- both values of each goal are 0, and this is the first part that does not pass a state
+-- Both values of each goal are 0, and this is the first state that does not pass the first part that fails.
 pub record IsPartFault (c : Certificate) (s : ℕ) (cause : RewardCause) : Type 0 where
   pub goals : GoalsHaveZeros c
   pub part : Part
   pub before : (earlier : Part) → place_of earlier < place_of part → IsPassed earlier c
   pub first : IsFirstUnpassed part c s cause
 
--- the one fault of a certificate: goals come first
+-- A certificate has this one fault: goals come first.
 abbrev pub IsRewardFault : Certificate → ℕ → RewardCause → Type 0
 IsRewardFault c s cause = ((cause ≡ Goal) × IsFirstGoalFault c s) ⊎ IsPartFault c s cause

@@ -1,4 +1,4 @@
-//! A certificate of rewards, checked.
+//! This module checks a certificate of rewards.
 
 ghost use Rattle.std.specs.Prelude.{◌≡◌, ◌<◌, ◌↔◌, ◌⊎◌, ℕ, true, IsTrue, IsOk, IfErr};
 ghost use Rattle.game_model.specs.Query.{states, is_goal};
@@ -12,59 +12,62 @@ use crate::parts::Part;
 use crate::tables::RewardTables;
 use crate::taken::{looks_at, missing, taken};
 
-/// Why a certificate of rewards is refused at a state.
+/// A certificate of rewards is refused at a state for one of these causes.
 #[derive(Clone, Copy, Debug, PartialEq, Eq)]
 pub enum RewardCause {
-    /// The state is a goal, and its lower or upper value is not 0, or there is none above.
+    /// The state is a goal, and one of its values is not 0 or is no number.
     Goal,
     /// The reply of the minimiser is missing or out of range.
     Reply,
     /// The choice has a successor without an upper value.
     Leaves {
-        /// The choice.
+        /// This is the choice.
         choice: u32,
     },
-    /// The reward of the choice, rounded up, and the weighted average of the upper values behind it are above the
-    /// upper value of the state.
+    /// The reward of the choice, rounded up, plus the weighted average of the upper values of its successors is above
+    /// the upper value of the state.
     Above {
-        /// The choice.
+        /// This is the choice.
         choice: u32,
     },
     /// No successor of the choice has a smaller rank.
     NoStep {
-        /// The choice.
+        /// This is the choice.
         choice: u32,
     },
     /// The choice of the maximiser is missing or out of range.
     Choice,
-    /// No successor of the choice has an infinite lower value, and its reward, rounded down, and the weighted average
-    /// of the lower values behind it are below the lower value of the state.
+    /// No successor of the choice has an infinite lower value, and its reward, rounded down, plus the weighted average
+    /// of the lower values of its successors is below the lower value of the state.
     Short {
-        /// The choice.
+        /// This is the choice.
         choice: u32,
     },
-    /// No successor of the choice has an infinite lower value and a smaller rank, and not all have infinite lower
-    /// values and ranks that are no greater.
+    /// No successor of the choice has both an infinite lower value and a smaller rank, and not all successors have
+    /// infinite lower values and ranks that are no greater.
     Away {
-        /// The choice.
+        /// This is the choice.
         choice: u32,
     },
 }
 
-/// The first fault of a certificate of rewards.
+/// A certificate of rewards has a first fault.
 #[derive(Clone, Copy, Debug, PartialEq, Eq)]
 pub struct RewardFault {
-    /// The state.
+    /// This is the state.
     pub state: u32,
-    /// What is wrong there.
+    /// This is what is wrong there.
     pub cause: RewardCause,
 }
 
-/// Checks a certificate of rewards. First come the goals, whose values are 0, and then four parts: the replies hold the
-/// upper values; by ranks they end the plays from the states that have one; the choices are paid the lower values that
-/// are numbers above 0; by ranks they miss the goals from the states of infinite lower value. Each part goes over the
-/// states in their order, and at a state over the choices that may be taken, by rising number: over the planned one
-/// alone at the states of the side whose plan it is, and over all at those of the other side. It takes no memory.
+/// Checks a certificate of rewards: first the goals, whose values have to be 0, and then four parts. The replies have
+/// to hold the upper values. By the ranks the plays under the replies have to end, from each state that has an upper
+/// value. The choices have to pay the lower values that are numbers above 0. By the ranks the plays under the choices
+/// have to miss the goals, from the states of infinite lower value.
+///
+/// Each part looks at the states in their order, and at a state at the choices that may be taken, by rising number. At
+/// the states of the side whose plan it is, this is only the planned choice. At the states of the other side it is
+/// every choice. The check takes no memory.
 pub fn check_rewards(tables: &RewardTables<'_>) -> Result<(), RewardFault>
     ensures ok { IsOk result ↔ IsAccepted (said tables.now) }
     ensures sound { IsOk result → IsSound (said tables.now) }
@@ -96,7 +99,7 @@ fn check_goals(tables: &RewardTables<'_>) -> Result<(), RewardFault>
     Ok(())
 }
 
-/// Whether both values of a state are 0.
+/// Returns whether both values of a state are 0.
 fn has_zeros(tables: &RewardTables<'_>, state: u32) -> bool
     requires { state < states tables.now.question.now }
     ensures { IsTrue result ↔ HasZeros (said tables.now) state }
@@ -121,7 +124,7 @@ fn check_part(tables: &RewardTables<'_>, part: Part) -> Result<(), RewardFault>
     Ok(())
 }
 
-/// Checks what a part asks of a state.
+/// Checks a state for a part.
 fn check_state(tables: &RewardTables<'_>, part: Part, state: u32) -> Result<(), RewardCause>
     requires { state < states tables.now.question.now }
     ensures ok { IsOk result ↔ IsPassedAt part (said tables.now) state }

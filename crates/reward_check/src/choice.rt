@@ -1,4 +1,4 @@
-//! What a part asks of one choice.
+//! This module checks a choice for each part of a certificate.
 
 ghost use Rattle.std.specs.Prelude.{◌≡◌, ◌<◌, ◌↔◌, length, IsOk, IfErr};
 ghost use Rattle.game_model.specs.Game.{choices_of};
@@ -15,7 +15,7 @@ use crate::reward::{is_covered, is_paid};
 use crate::successors::{leads_away, leads_down};
 use crate::tables::RewardTables;
 
-/// Checks a choice.
+/// Checks a choice for a part.
 pub fn check_choice(
     tables: &RewardTables<'_>,
     part: Part,
@@ -35,7 +35,7 @@ pub fn check_choice(
     }
 }
 
-/// Checks that each successor has an upper value, and that the choice is covered by that of its state.
+/// Checks that each successor has an upper value, and that the upper value of the state covers the choice.
 fn check_held(tables: &RewardTables<'_>, state: u32, choice: u32) -> Result<(), RewardCause>
     requires state { state < states tables.now.question.now }
     requires choice { choice < length (choices_of tables.now.question.now.game state) }
@@ -65,7 +65,7 @@ fn check_step(tables: &RewardTables<'_>, state: u32, choice: u32) -> Result<(), 
     Ok(())
 }
 
-/// Checks that some successor has an infinite lower value, or that the choice pays that of its state.
+/// Checks that some successor has an infinite lower value, or that the choice pays the lower value of its state.
 fn check_paid(tables: &RewardTables<'_>, state: u32, choice: u32) -> Result<(), RewardCause>
     requires state { state < states tables.now.question.now }
     requires choice { choice < length (choices_of tables.now.question.now.game state) }

@@ -1,6 +1,6 @@
-//! The parts of a check that look at choices.
+//! A check has parts that look at choices.
 
-/// A part of a check, in their order.
+/// A check has these parts, in this order.
 #[derive(Clone, Copy)]
 pub enum Part {
     /// The upper values are held by the replies.

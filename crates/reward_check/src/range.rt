@@ -1,6 +1,6 @@
-//! A range of choices.
+//! The choices that may be taken at a state are a range.
 
-/// Choices from one up to and not including another.
+/// The range has the choices from `from` up to `to`, without `to`.
 #[derive(Clone, Copy)]
 pub struct ChoiceRange {
     pub from: u32,

@@ -1,4 +1,4 @@
-//! What a certificate of rewards says.
+//! This module has the tables of a certificate of rewards.
 
 ghost use Rattle.std.specs.Prelude.{◌≡◌, ℕ, ◌<◌, ◌≤◌, false, length, All};
 ghost use Rattle.game_model.specs.Limits.{unit};
@@ -6,30 +6,30 @@ ghost use Rattle.game_model.specs.Query.{IsQuery, states, is_dead};
 
 use game_model::Question;
 
-/// A certificate of rewards, over a question in which no state is dead. Values and rewards are whole numbers of one
-/// unit, and a value is at most 10^15 of them. Where a value of a state is no number, its entry plays no part. A list
-/// of rewards has one for each choice, state by state; a choice behind the end of its list pays 0.
+/// A certificate of rewards is for a question in which no state is dead. Values and rewards are whole numbers of one
+/// unit, and a value is at most 10^15 of them. If a value of a state is no number, its entry plays no part. A list of
+/// rewards has one for each choice, state by state; a choice after the end of the list pays 0.
 #[derive(Clone, Copy)]
 pub struct RewardTables<'a> {
-    /// The question.
+    /// The certificate is for this question.
     pub question: &'a Question<'a>,
-    /// The reward of each choice, rounded down.
+    /// Each choice has this reward, rounded down.
     pub low: &'a [u64],
-    /// The reward of each choice, rounded up.
+    /// Each choice has this reward, rounded up.
     pub high: &'a [u64],
-    /// Whether the lower value of a state is a number; else it is infinite.
+    /// This says whether the lower value of a state is a number. If not, it is infinite.
     pub finite: &'a [bool],
-    /// Whether the upper value of a state is a number; else none is claimed.
+    /// This says whether the upper value of a state is a number. If not, none is claimed.
     pub bounded: &'a [bool],
-    /// The lower values.
+    /// These are the lower values.
     pub lower: &'a [u64],
-    /// The upper values.
+    /// These are the upper values.
     pub upper: &'a [u64],
-    /// The choices of the maximiser.
+    /// These are the choices of the maximiser.
     pub choices: &'a [Option<u32>],
-    /// The replies of the minimiser.
+    /// These are the replies of the minimiser.
     pub replies: &'a [Option<u32>],
-    /// The ranks.
+    /// Each state has a rank.
     pub ranks: &'a [u32],
     ghost posed: { IsQuery question.now },
     ghost alive: { (s : ℕ) → s < states question.now → is_dead question.now s ≡ false },

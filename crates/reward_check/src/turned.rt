@@ -1,4 +1,4 @@
-//! The question with exchanged sides.
+//! The sides of a question can be exchanged.
 
 ghost use Rattle.std.specs.Prelude.{◌≡◌, IfOk};
 ghost use Rattle.expected_rewards.specs.Turned.{turned};
@@ -7,7 +7,7 @@ use game_model::Question;
 use game_outside::OutOfMemory;
 use std::alloc::Global;
 
-/// The question with exchanged sides. The only error is want of memory.
+/// Returns the question with exchanged sides. The only error is that memory ran out.
 pub fn turn<'g>(alloc: Global, question: &Question<'g>) -> Result<Question<'g>, OutOfMemory>
     ensures { IfOk result (λ other. other ≡ turned question.now) }
 {

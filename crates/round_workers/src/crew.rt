@@ -1,4 +1,4 @@
-//! Workers in a row and their states.
+//! This module has rows of workers and their states.
 
 ghost use Rattle.std.specs.Prelude.{◌<◌, ◌≤◌};
 ghost use Rattle.round_workers.specs.Share.{most_workers};
@@ -6,8 +6,8 @@ ghost use Rattle.round_workers.specs.Share.{most_workers};
 use crate::share::first_state;
 use game_model::Game;
 
-/// Workers of a round in a row, of so many in all: from `first` up to and not including `last`. Their states stand from
-/// `low` up to and not including `high`.
+/// A crew is a row of the `workers` of a round: from `first` up to and not including `last`. Their states go from `low`
+/// up to and not including `high`.
 #[derive(Clone, Copy)]
 pub struct Crew {
     pub workers: u32,
@@ -24,7 +24,7 @@ impl Crew {
     ghost use Rattle.std.specs.Prelude.{◌≡◌, ◌-◌, length};
     ghost use Rattle.round_workers.specs.inside.Crews.{IsCrew, AreHalves};
 
-    /// All workers of a round.
+    /// Makes the crew of all workers of a round.
     pub fn all(game: &Game, workers: u32) -> Crew
         requires { (1 ≤ workers) × (workers ≤ most_workers) }
         ensures crew { IsCrew game.now result }
@@ -42,7 +42,7 @@ impl Crew {
         }
     }
 
-    /// The first half of the workers, and the others.
+    /// Returns the first half of the workers, and the others.
     pub fn halves(self, game: &Game) -> (Crew, Crew)
         requires crew { IsCrew game.now self }
         requires some { 2 ≤ self.last - self.first }

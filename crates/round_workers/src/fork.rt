@@ -1,4 +1,4 @@
-//! A round, forked and joined by halves of the workers.
+//! This module makes a round, forked and joined by halves of the workers.
 ghost use Rattle.std.specs.Prelude.{◌≡◌, ℕ, ◌+◌, ◌-◌, ◌<◌, ◌≤◌, length};
 ghost use Rattle.std.specs.Thread.{IsSend, IsSync};
 ghost use Rattle.game_model.specs.Query.{states};
@@ -15,15 +15,15 @@ use predecessors::Predecessors;
 use std::thread::{Threads, join};
 use value_words::{Pass, Posing, ValueTable};
 
-/// One round over the marked states: each worker updates those of its states that have a mark, in rising order, and
-/// passes the gate before each state, marked or not. Worker w of W has each state s for which E(s) * W / E, rounded
+/// Makes one round over the marked states: each worker updates those of its states that have a mark, in rising order,
+/// and passes the gate before each state, marked or not. Worker w of W has each state s for which E(s) * W / E, rounded
 /// down, is w, with E(s) edges below s and E in all.
 ///
-/// Where a worker raises a state, it marks for itself, in `more`, the predecessors of that state that stand behind it
-/// among its own states, and updates these too: so one worker's round with marks raises what one over all states does,
-/// where each state without a mark would not rise. A round promises nothing of `more`.
+/// When a worker raises a state, it marks for itself, in `more`, the predecessors of that state that come after it
+/// among its own states, and updates these too. So if no state without a mark would rise, one worker's round with marks
+/// raises what a round over all states raises. A round promises nothing about `more`.
 ///
-/// In a whole round each worker updates all of its states, once, and marks none: so it is to be asked for where all
+/// In a whole round each worker updates all of its states once, and marks none. It is meant for rounds in which all
 /// states are marked.
 pub fn round<R: Threads + Sync, P: Posing + Send + Sync, G: Gate + Sync>(
     rt: &R,
@@ -46,7 +46,7 @@ pub fn round<R: Threads + Sync, P: Posing + Send + Sync, G: Gate + Sync>(
     ensures step { (s : ℕ) → s < states P.posed → IsMarked marks.now s
         → down_step P.posed (seen_by pass) s ≤ seen_by result.pass s }
     ensures raises { won_by result.pass ≡ won_by pass + result.raises }
-    // No more exchanges than states.
+    // No more exchanges are won than there are states.
     ensures few { result.raises ≤ states P.posed }
     ensures parts { workers ≤ parts_of pass → parts_of result.pass ≡ parts_of pass }
 {
@@ -61,7 +61,7 @@ pub fn round<R: Threads + Sync, P: Posing + Send + Sync, G: Gate + Sync>(
     fork(rt, &task, pass, more, crew)
 }
 
-/// The part of a crew. The first of `more` is the mark of its first state.
+/// Makes the part of a crew. The first of `more` is the mark of its first state.
 fn fork<R: Threads + Sync, P: Posing + Send + Sync, G: Gate + Sync>(
     rt: &R,
     task: &Task<'_, P, G>,
@@ -99,7 +99,7 @@ fn fork<R: Threads + Sync, P: Posing + Send + Sync, G: Gate + Sync>(
     meet(task.table, left, right)
 }
 
-/// The halves of a crew of at least two workers.
+/// Returns the halves of a crew of at least two workers.
 fn halves<P: Posing>(table: &ValueTable<'_, P>, crew: Crew) -> (Crew, Crew)
     requires crew { IsCrew P.posed.game crew }
     requires some { 2 ≤ crew.last - crew.first }

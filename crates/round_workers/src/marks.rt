@@ -1,4 +1,4 @@
-//! Marks of the states that a round updates.
+//! This module finds and sets the marks of the states that a round updates.
 
 ghost use Rattle.std.specs.Prelude.{◌≡◌, ℕ, ◌<◌, ◌≤◌, length, false, MatchBool};
 ghost use Rattle.std.specs.List.{AllWithin};
@@ -8,10 +8,10 @@ ghost use Rattle.round_workers.specs.Marks.{HasMark, IsNextMark};
 
 use predecessors::Predecessors;
 
-/// How many marks in a row are looked at together.
+/// This many marks in a row are looked at together.
 pub const STRETCH: u32 = 64;
 
-/// Whether a mark stands from one place up to and not including another.
+/// Returns whether there is a mark from one place up to and not including another.
 pub fn has_mark(marks: &[bool], from: u32, to: u32) -> bool
     requires range { from ≤ to }
     requires inside { to ≤ length marks.now }
@@ -24,7 +24,7 @@ pub fn has_mark(marks: &[bool], from: u32, to: u32) -> bool
     any
 }
 
-/// The first place from one on that has a mark; the number of marks, where there is none.
+/// Returns the first place from one on that has a mark, or the number of marks if there is none.
 pub fn next_mark(marks: &[bool], from: u32) -> u32
     requires few { length marks.now ≤ most_states }
     requires from { from ≤ length marks.now }
@@ -34,7 +34,7 @@ pub fn next_mark(marks: &[bool], from: u32) -> u32
     first_mark(marks, begin)
 }
 
-/// Where the first stretch from a place on begins that has a mark.
+/// Returns where the first stretch from a place on begins that has a mark.
 fn marked_stretch(marks: &[bool], from: u32) -> u32
     requires few { length marks.now ≤ most_states }
     requires from { from ≤ length marks.now }
@@ -53,7 +53,7 @@ fn marked_stretch(marks: &[bool], from: u32) -> u32
     place
 }
 
-/// The first place from one on that has a mark, one after another.
+/// Returns the first place from one on that has a mark. It looks at one place after another.
 fn first_mark(marks: &[bool], from: u32) -> u32
     requires few { length marks.now ≤ most_states }
     requires from { from ≤ length marks.now }
@@ -68,8 +68,8 @@ fn first_mark(marks: &[bool], from: u32) -> u32
     count
 }
 
-/// Marks the predecessors of a state that stand behind it. The first of the marks is that of the state `first`;
-/// predecessors past the last are left out.
+/// Marks the predecessors of a state that come after it. The first mark is that of the state `first`. Predecessors past
+/// the last mark are left out.
 pub fn mark_behind(predecessors: &Predecessors, state: u32, first: u32, marks: &mut [bool])
     requires state { state < length predecessors.now }
     requires first { first ≤ state }

@@ -1,15 +1,15 @@
-//! Which states a worker has: about as many edges as every other.
+//! This module says which states a worker has: about as many edges as every other.
 
 ghost use Rattle.std.specs.Prelude.{◌≡◌, ◌+◌, ◌*◌, ◌/◌, ◌<◌, ◌≤◌, length};
 ghost use Rattle.round_workers.specs.Share.{most_workers, worker_of, BeginsBlock};
 
 use game_model::Game;
 
-/// The most workers of a round.
+/// A round has at most this many workers.
 pub const MOST_WORKERS: u32 = 64;
 
-/// The worker of a state, where there are so many workers: the edges of the states below it times the
-/// workers, over all edges, rounded down.
+/// Returns the worker of a state out of `workers`: the edges of the states below it times the workers, over all edges,
+/// rounded down.
 pub fn worker_of(game: &Game, workers: u32, state: u32) -> u32
     requires few { workers ≤ most_workers }
     requires state { state < length game.now }
@@ -20,7 +20,7 @@ pub fn worker_of(game: &Game, workers: u32, state: u32) -> u32
     (below / game.edges_below(game.states())) as u32
 }
 
-/// The first state of a worker or of a later one; the number of states, where there is none.
+/// Returns the first state of a worker or of a later one, or the number of states if there is none.
 pub fn first_state(game: &Game, workers: u32, worker: u32) -> u32
     requires few { workers ≤ most_workers }
     ensures { BeginsBlock game.now workers worker result }

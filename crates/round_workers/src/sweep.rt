@@ -1,4 +1,4 @@
-//! One worker's part of a round.
+//! This module makes one worker's part of a round.
 
 ghost use Rattle.std.specs.Prelude.{◌≡◌, ℕ, ◌+◌, ◌<◌, ◌≤◌, ◌^◌, length, MatchBool};
 ghost use Rattle.game_model.specs.Query.{states};
@@ -12,29 +12,29 @@ use game_outside::Gate;
 use predecessors::Predecessors;
 use value_words::{Pass, Posing, ValueTable};
 
-/// What the workers of a round have in common.
+/// The workers of a round have this in common.
 #[derive(Drop)]
 pub struct Task<'r, P: Posing, G: Gate> {
-    /// The words.
+    /// These are the words.
     pub table: &'r ValueTable<'r, P>,
-    /// The predecessors of each state, which a worker that raises it marks.
+    /// These are the predecessors of each state, which a worker marks when it raises the state.
     pub predecessors: &'r Predecessors,
-    /// The states to update.
+    /// The states with a mark are updated.
     pub marks: &'r [bool],
-    /// Whether all states are to be updated.
+    /// All states are updated if this is true.
     pub whole: bool,
-    /// What each worker passes before each state.
+    /// Each worker passes this gate before each state.
     pub gate: &'r G,
     ghost listed: { length predecessors.now ≡ states P.posed },
     ghost marked: { length marks.now ≡ states P.posed },
 }
 
-/// What is left after a round: the pass, and how many exchanges it won in the round.
+/// A round leaves the pass, and how many exchanges it won in the round.
 #[derive(Drop)]
 pub struct Rounded<P: Posing> {
-    /// What all workers have seen.
+    /// The pass has seen what all workers have seen.
     pub pass: Pass<P>,
-    /// How many exchanges the workers won.
+    /// The workers won this many exchanges.
     pub raises: u64,
 }
 
@@ -91,7 +91,7 @@ fn pass_over<G: Gate>(worker: u32, from: u32, to: u32, gate: &G) {
     }
 }
 
-/// Visits each state of a stretch. How many exchanges were won.
+/// Visits each state of a stretch. Returns how many exchanges were won.
 fn walk<P: Posing, G: Gate>(
     task: &Task<'_, P, G>,
     pass: &mut Pass<P>,
@@ -118,8 +118,8 @@ fn walk<P: Posing, G: Gate>(
     raises
 }
 
-/// Updates a state that has a mark in either list; any state in a whole round. Whether an exchange won; then its
-/// predecessors behind it are marked, but in no whole round.
+/// Updates a state that has a mark in either list, or any state in a whole round. Returns whether an exchange won. If
+/// so, the state's predecessors after it are marked, unless the round is whole.
 fn visit<P: Posing, G: Gate>(
     task: &Task<'_, P, G>,
     pass: &mut Pass<P>,

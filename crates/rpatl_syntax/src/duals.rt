@@ -1,4 +1,4 @@
-//! The formula by which `G` is judged.
+//! This module makes the formula by which one with `G` is judged.
 
 ghost use Rattle.std.specs.Prelude.{◌≡◌, IfOk, option_map};
 ghost use Rattle.rpatl_syntax.specs.Dual.{dual_bound, dual_of, IsAtMostOne};
@@ -8,9 +8,9 @@ use formula_reader::{Bound, Formula, Names, PathKind, StateFormula};
 use game_outside::{Name, OutOfMemory};
 use std::alloc::Global;
 
-/// The formula by which one with `G y` is judged. It has the same coalition and the path `F !y`, whose probability is 1
-/// less that of `G y`, so it has the threshold `1 - p`, with `>=` exchanged with `<=`, `>` with `<`, and `Pmax=?` with
-/// `Pmin=?`.
+/// Makes the formula by which one with `G y` is judged. It has the same coalition and the path `F !y`, whose
+/// probability is 1 minus that of `G y`. So it has the threshold `1 - p`, and `>=` is exchanged with `<=`, `>` with
+/// `<`, and `Pmax=?` with `Pmin=?`.
 pub fn dual(alloc: Global, formula: &Formula) -> Result<Formula, OutOfMemory>
     requires always { formula.now.kind ≡ PathKind.Always }
     requires share { IsAtMostOne formula.now.bound }
@@ -25,7 +25,7 @@ pub fn dual(alloc: Global, formula: &Formula) -> Result<Formula, OutOfMemory>
     })
 }
 
-// The bound on 1 less the probability.
+// Returns the bound on 1 minus the probability.
 fn mirrored(bound: &Bound) -> Bound
     requires { IsAtMostOne bound.now }
     ensures { result ≡ dual_bound bound.now }
@@ -99,7 +99,7 @@ fn copied_state(alloc: Global, state: &StateFormula) -> Result<StateFormula, Out
     }
 }
 
-// A copy with sides of its own.
+// Makes a copy with sides of its own.
 #[cycle(copied)]
 fn copied_formula(alloc: Global, formula: &Formula) -> Result<Formula, OutOfMemory>
     ensures { IfOk result (λ copy. tree_of copy ≡ tree_of formula.now) }
@@ -116,7 +116,7 @@ fn copied_formula(alloc: Global, formula: &Formula) -> Result<Formula, OutOfMemo
     })
 }
 
-// A copy in memory of its own.
+// Makes a copy in memory of its own.
 #[cycle(copied)]
 fn copied_place(alloc: Global, state: &StateFormula) -> Result<Box<StateFormula>, OutOfMemory>
     ensures { IfOk result (λ place. state_of place.value ≡ state_of state.now) }

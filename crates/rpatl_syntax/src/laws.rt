@@ -1,4 +1,4 @@
-//! Laws of spellings and duals. Each function does nothing; its contract is the law.
+//! This module has the laws of spellings and duals. Each function does nothing: its contract is the law.
 
 ghost use Rattle.std.specs.Prelude.{◌≡◌, ◌≤◌, ◌-◌, ◌↔◌, ℕ, List};
 ghost use Rattle.formula_reader.specs.declared.formula.Bound.{Bound};
@@ -8,7 +8,8 @@ ghost use Rattle.formula_reader.specs.Rules.{DenotesFormula};
 ghost use Rattle.rpatl_syntax.specs.Spellable.{IsSpellable};
 ghost use Rattle.rpatl_syntax.specs.Spelling.{spelling};
 
-/// What a text denotes can be spelled, so `print_formula` says of it that it is read again.
+/// A formula that a text denotes can be spelled. The contract of `print_formula` therefore says that it is read again
+/// from what is printed, unless that is too long.
 pub fn formulas_of_texts_are_spellable()
     ensures { (text : List ℕ) (tree : Tree) → DenotesFormula text tree → IsSpellable tree }
 {}
@@ -19,12 +20,12 @@ pub fn spellings_have_one_reading()
         → tree ≡ other }
 {}
 
-/// A threshold of a formula that a text denotes is at most 1, as `dual` requires it.
+/// A threshold of a formula that a text denotes is at most 1, as `dual` requires.
 pub fn thresholds_are_at_most_one()
     ensures { (text : List ℕ) (tree : Tree) → DenotesFormula text tree → IsAtMostOne tree.bound }
 {}
 
-/// What is left of a whole meets the dual of a bound exactly where the part that was taken meets the bound.
+/// What is left of a whole meets the dual of a bound exactly if the part that was taken meets the bound.
 pub fn rests_meet_duals()
     ensures { (bound : Bound) (n whole : ℕ) → IsAtMostOne bound → n ≤ whole
         → IsMetBy (dual_bound bound) (whole - n) whole ↔ IsMetBy bound n whole }

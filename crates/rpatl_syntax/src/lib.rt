@@ -1,5 +1,6 @@
-//! Formulas of PCTL and rPATL, both ways: `read_formula` of `formula_reader` reads them, and `print_formula` gives the
-//! one spelling of a formula, from which it is read again. `dual` gives the formula by which one with `G` is judged.
+//! This crate reads and prints formulas of PCTL and rPATL. `read_formula` of `formula_reader` reads them, and
+//! `print_formula` gives the one spelling of a formula, from which it is read again. `dual` gives the formula by which
+//! one with `G` is judged.
 #![tactic(auto)]
 
 mod duals;

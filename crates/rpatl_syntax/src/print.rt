@@ -1,4 +1,4 @@
-//! The one spelling of a formula.
+//! This module prints the one spelling of a formula.
 
 ghost use Rattle.std.specs.Prelude.{◌≡◌, ◌≤◌, ◌++◌, length, option_map, Ok, OnOk, IfOk, decimal};
 ghost use Rattle.formula_reader.specs.Formula.{state_of, tree_of, names_of};
@@ -13,10 +13,10 @@ use game_outside::{Name, OutOfMemory};
 use itoa::Buffer;
 use std::alloc::Global;
 
-/// The spelling of a formula, which depends on its tree alone.
+/// Prints the spelling of a formula, which depends only on its tree.
 pub fn print_formula(alloc: Global, formula: &Formula) -> Result<Vec<u8>, OutOfMemory>
     ensures spelled { IfOk result (λ text. text.items ≡ spelling (tree_of formula.now)) }
-    // What the grammar can spell is read again from what is printed, unless that is too long.
+    // A formula that the grammar can spell is read again from what is printed, unless that is too long.
     ensures again { IfOk result (λ text. IsSpellable (tree_of formula.now) → length text.items ≤ longest
         → formula_said text.items ≡ Ok (tree_of formula.now)) }
 {
@@ -103,7 +103,7 @@ fn put_number(out: &mut Vec<u8>, number: u128) -> Result<(), OutOfMemory>
     put(out, digits.format(number))
 }
 
-// What stands before the right side.
+// Prints what comes before the right side.
 #[cycle(printed)]
 fn put_kind(out: &mut Vec<u8>, kind: PathKind, left: &StateFormula) -> Result<(), OutOfMemory>
     ensures { OnOk result (out.new.items ≡ out.old.items ++ kind_spelling kind (state_of left.now)
@@ -121,7 +121,7 @@ fn put_kind(out: &mut Vec<u8>, kind: PathKind, left: &StateFormula) -> Result<()
     }
 }
 
-// `F`, or the left side and `U`.
+// Prints `F`, or the left side and `U`.
 #[cycle(printed)]
 fn put_until(out: &mut Vec<u8>, left: &StateFormula) -> Result<(), OutOfMemory>
     ensures { OnOk result (out.new.items ≡ out.old.items ++ until_spelling (state_of left.now)
@@ -171,7 +171,7 @@ fn put_state(out: &mut Vec<u8>, state: &StateFormula) -> Result<(), OutOfMemory>
     }
 }
 
-// A state formula in a place for formulas that bind at least so tightly.
+// Prints a state formula in a place for formulas that bind at least this tightly.
 #[cycle(printed)]
 fn put_operand(out: &mut Vec<u8>, least: u8, state: &StateFormula) -> Result<(), OutOfMemory>
     ensures { OnOk result (out.new.items ≡ out.old.items ++ in_place least (state_of state.now)

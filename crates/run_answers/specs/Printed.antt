@@ -1,4 +1,5 @@
--- What is printed of two tables: a line for each initial state with what its bounds say, and the certificate.
+-- These definitions say what is printed of two tables: a line for each initial state with what its bounds say, and the
+-- certificate.
 use Rattle.std.specs.Prelude.{ℕ, ◌-◌, Bool, true, false, List, map, slice_index, Option, Some, None, if◌then◌else◌}
 use Rattle.std.specs.List.{list_any}
 use Rattle.game_model.specs.Limits.{unit}
@@ -16,33 +17,33 @@ use Rattle.run_answers.specs.Outputs.{Certificate, Output}
 use Rattle.run_answers.specs.declared.status.Status.{Status}
 use Rattle.run_answers.specs.declared.status.Status.TheVariants.{Fine, SomeFalse, SomeUndecided}
 
--- bounds of the dual of `G`, of which 1 less the value is asked
+-- The value of `G` is 1 less that of its dual, so the bounds of the dual are mirrored.
 abbrev pub is_mirrored : PathKind → Bool
 is_mirrored Until = false
 is_mirrored (Within steps) = false
 is_mirrored Next = false
 is_mirrored Always = true
 
--- The line of a state, by its entries in a lower and an upper table: its bounds, where they come from, and what they
--- say of the bound. Mirrored, the bounds are 1 less those of the tables, exchanged.
+-- The line of a state comes from its entries in a lower and an upper table: its bounds, where they come from, and what
+-- they say of the bound of the formula. If it is mirrored, its bounds are 1 less those of the tables, exchanged.
 abbrev pub line_of : Bool → Bound → How → List ℕ → List ℕ → ℕ → ReportLine
 line_of mirrored bound how lower upper s =
     let low = (if mirrored then unit - slice_index upper s else slice_index lower s) in
     let high = (if mirrored then unit - slice_index lower s else slice_index upper s) in
     record { state = s; lower = low; upper = high; how = how; verdict = verdict_of bound low high }
 
--- a certificate is that of the question which is answered
+-- A certificate is that of the answered question.
 abbrev pub certificate_of : Bool → Tree → Plan → Option Certificate
 certificate_of asked f plan = if asked then Some (record { formula = answered f; entries = entries_of plan }) else None
 
--- one line for each initial state, in the report of a formula, and the certificate where it is asked for
+-- The report of a formula has one line for each initial state, and the certificate if it is asked for.
 abbrev pub output_of : Bool → Tree → How → List ℕ → Plan → Output
 output_of asked f how initial plan = record {
   lines = map (line_of (is_mirrored f.kind) f.bound how plan.lower.items plan.upper.items) initial;
   certificate = certificate_of asked f plan;
 }
 
--- some line is False; else some is Undecided; else all is well
+-- The status is `SomeFalse` if some line is False, else `SomeUndecided` if some line is Undecided, and else `Fine`.
 abbrev pub status_of : List ReportLine → Status
 status_of lines = if list_any (λ line. is_no line.verdict) lines then SomeFalse else
     (if list_any (λ line. is_undecided line.verdict) lines then SomeUndecided else Fine)

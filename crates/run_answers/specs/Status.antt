@@ -1,10 +1,10 @@
--- The exit status of each end of a run.
+-- These definitions give the exit status of each end of a run.
 use Rattle.std.specs.Prelude.{ℕ}
 use Rattle.run_answers.specs.declared.status.Status.{Status}
 use Rattle.run_answers.specs.declared.status.Status.TheVariants.{Fine, SomeFalse, SomeUndecided, Usage, ModelRefused}
 use Rattle.run_answers.specs.declared.status.Status.TheVariants.{ReadFault, WriteFault, OutOfMemory, CertificateRefused}
 
--- the exit status of the program, by how the run ends
+-- This is the exit status of the program, by how the run ends.
 abbrev pub status_number : Status → ℕ
 status_number Fine = 0
 status_number SomeFalse = 1
@@ -16,7 +16,7 @@ status_number WriteFault = 6
 status_number OutOfMemory = 7
 status_number CertificateRefused = 8
 
--- a report was written
+-- With this status a report was written.
 abbrev pub IsAnswer : Status → Type 0
 IsAnswer Fine = Unit {0}
 IsAnswer SomeFalse = Unit {0}

@@ -1,4 +1,5 @@
-//! What a run writes, and how it ends then: a line for each initial state, and the status of the lines.
+//! This module makes what a run writes, and how it ends then: a line for each initial state, and the status of the
+//! lines.
 
 ghost use Rattle.std.specs.Prelude.{◌≡◌, ◌≤◌, ◌<◌, All, IfOk, length, map};
 ghost use Rattle.std.specs.List.{list_any};
@@ -15,18 +16,18 @@ use game_outside::OutOfMemory;
 use std::alloc::Global;
 use verdicts::{How, ReportLine, report_text, settle};
 
-/// What a run writes, and how it ends then.
+/// This is what a run writes, and how it ends then.
 #[derive(Drop)]
 pub struct Answer {
-    /// The text.
+    /// The run writes this text.
     pub text: Vec<u8>,
-    /// The status.
+    /// The run ends with this status.
     pub status: Status,
 }
 
-/// The report of some states: one line for each, with the bounds that two tables have, in units, and what these say of
-/// a bound. Where the tables are mirrored, those of the dual of `G`, 1 less their bounds is printed. The only error is
-/// want of memory.
+/// Reports on some states: one line for each, with the bounds that two tables have, in units, and what these say of a
+/// bound. If the tables are mirrored, they are those of the dual of `G`, and 1 less their bounds is printed. The only
+/// error is that memory ran out.
 pub fn report_of(
     alloc: Global,
     mirrored: bool,
@@ -54,7 +55,7 @@ pub fn report_of(
     })
 }
 
-/// Whether the tables of a formula are those of its dual, whose bounds are mirrored when they are printed.
+/// Returns whether the tables of a formula are those of its dual, whose bounds are mirrored when they are printed.
 pub fn is_mirrored(formula: &Formula) -> bool
     ensures { result ≡ is_mirrored formula.now.kind }
 {
@@ -64,7 +65,7 @@ pub fn is_mirrored(formula: &Formula) -> bool
     }
 }
 
-// The lines of some states.
+// Makes the lines of some states.
 fn lines_of(
     alloc: Global,
     mirrored: bool,
@@ -89,7 +90,7 @@ fn lines_of(
     Ok(lines)
 }
 
-// The line of a state, by its entries in the tables.
+// Makes the line of a state from its entries in the tables.
 fn line_of(
     mirrored: bool,
     bound: &Bound,
@@ -121,7 +122,8 @@ fn line_of(
     }
 }
 
-// The status of a report: some line is False, or else some is Undecided, or none is.
+// Returns the status of a report: `SomeFalse` if some line is False, else `SomeUndecided` if some line is Undecided,
+// and else `Fine`.
 fn status_of(lines: &[ReportLine]) -> Status
     ensures status { result ≡ status_of lines.now }
     ensures answer { IsAnswer result }

@@ -1,16 +1,16 @@
-//! How a run ends.
+//! This module says how a run ends.
 
 ghost use Rattle.std.specs.Prelude.{◌≡◌};
 
-/// How a run ends. The program's exit status is its number.
+/// This says how a run ends. The exit status of the program is its number.
 #[derive(Clone, Copy, Debug, PartialEq, Eq)]
 pub enum Status {
-    /// Every initial state has its line, and none is false or undecided; or both tables of a made game are settled; or
-    /// every initial state is sure.
+    /// Every initial state has its line, and none is False or Undecided; or the run of a made game is settled; or every
+    /// initial state is sure.
     Fine,
-    /// Some initial state's line is false, or some initial state is not sure.
+    /// Some initial state's line is False, or some initial state is not sure.
     SomeFalse,
-    /// None is false, and some is undecided; or a made game is not settled.
+    /// No line is False, and some line is Undecided; or the run of a made game is not settled.
     SomeUndecided,
     /// The words denote no command.
     Usage,
@@ -20,7 +20,7 @@ pub enum Status {
     ReadFault,
     /// The output can't be written.
     WriteFault,
-    /// Memory was wanting. Nothing was written.
+    /// Memory ran out. Nothing was written.
     OutOfMemory,
     /// The certificate is refused.
     CertificateRefused,
@@ -29,7 +29,7 @@ pub enum Status {
 impl Status {
     ghost use Rattle.run_answers.specs.Status.{status_number};
 
-    /// The exit status.
+    /// Returns the exit status.
     pub fn number(self) -> u8
         ensures { result ≡ status_number self }
     {

@@ -1,4 +1,4 @@
--- Refusals that are no want of memory.
+-- This module says which refusals are not because memory ran out.
 use Rattle.std.specs.Prelude.{◌≡◌, ◌≢◌, false}
 use Rattle.tra_reader.specs.FileEnds.{is_out_of_memory}
 use Rattle.label_lines.specs.declared.faults.LabCause.TheVariants as lab
@@ -9,7 +9,7 @@ use Rattle.run_refusals.specs.declared.refusal.Refusal.{Refusal}
 use Rattle.run_refusals.specs.declared.refusal.Refusal.TheVariants.{OfTra, OfLab, OfOwn, OfFormula, OfQuestion}
 use Rattle.run_refusals.specs.declared.refusal.Refusal.TheVariants.{WrongKind, OfCertificate, OfValues, TooLong}
 
--- a text, a formula or a question is at fault, and not memory
+-- A text, a formula or a question is at fault, and not memory.
 abbrev pub IsCaused : Refusal → Type 0
 IsCaused (OfTra fault) = is_out_of_memory fault.cause ≡ false
 IsCaused (OfLab fault) = fault.cause ≢ lab.OutOfMemory

@@ -1,4 +1,4 @@
--- Refusals whose numbers are written in full.
+-- This module says when the numbers of a refusal are written in full.
 use Rattle.std.specs.Prelude.{ℕ, ◌<◌, ◌^◌}
 use Rattle.distributions.specs.declared.choice.ChoiceFault.{ChoiceFault}
 use Rattle.distributions.specs.declared.choice.ChoiceFault.TheVariants as choice
@@ -16,21 +16,22 @@ use Rattle.run_refusals.specs.declared.refusal.Refusal.{Refusal}
 use Rattle.run_refusals.specs.declared.refusal.Refusal.TheVariants.{OfTra, OfLab, OfOwn, OfFormula, OfQuestion}
 use Rattle.run_refusals.specs.declared.refusal.Refusal.TheVariants.{WrongKind, OfCertificate, OfValues, TooLong}
 
--- `decimal` writes no more than the last 64 digits of a number; those of 128 bits have at most 39
+-- A number has at most 64 digits. `decimal` writes only the last 64 digits of a number, and numbers of 128 bits have at
+-- most 39.
 abbrev pub IsInFull : ℕ → Type 0
 IsInFull n = n < 10 ^ 64
 
--- both numbers are written in full
+-- Both numbers are written in full.
 abbrev pub AreInFull : ℕ → ℕ → Type 0
 AreInFull m n = IsInFull m × IsInFull n
 
--- the numbers that say why a choice is no distribution are written in full
+-- The numbers that say why a choice is no distribution are written in full.
 abbrev pub ChoiceInFull : ChoiceFault → Type 0
 ChoiceInFull choice.OutOfMemory = Unit {0}
 ChoiceInFull (choice.TooFine first second) = AreInFull first second
 ChoiceInFull (choice.BadSum sum denominator) = AreInFull sum denominator
 
--- the numbers that say why a transition text is refused are written in full
+-- The numbers that say why a transition text is refused are written in full.
 abbrev pub TraInFull : TraCause → Type 0
 TraInFull tra.OutOfMemory = Unit {0}
 TraInFull tra.NoHeader = Unit {0}
@@ -47,7 +48,7 @@ TraInFull (tra.TooManyChoices state) = IsInFull state
 TraInFull (tra.ChoiceCount read stated) = AreInFull read stated
 TraInFull (tra.Choice state k fault) = AreInFull state k × ChoiceInFull fault
 
--- the number that says why a label or owner text is refused, where there is one, is written in full
+-- If a number says why a label or owner text is refused, it is written in full.
 abbrev pub LabInFull : LabCause → Type 0
 LabInFull lab.OutOfMemory = Unit {0}
 LabInFull lab.NoHeader = Unit {0}
@@ -60,7 +61,7 @@ LabInFull lab.UnknownIndex = Unit {0}
 LabInFull lab.OverLimit = Unit {0}
 LabInFull (lab.TwoOwners state) = IsInFull state
 
--- the number of the choice for which an upper table is refused, where there is one, is written in full
+-- If an upper table is refused for a choice, the number of the choice is written in full.
 abbrev pub UpperInFull : UpperCause → Type 0
 UpperInFull upper.OverOne = Unit {0}
 UpperInFull upper.Goal = Unit {0}
@@ -68,20 +69,20 @@ UpperInFull (upper.Above k) = IsInFull k
 UpperInFull upper.NoReply = Unit {0}
 UpperInFull upper.Reply = Unit {0}
 
--- the number of the choice for which a lower table or its ranks are refused, where there is one, is written in full
+-- If a lower table or its ranks are refused for a choice, the number of the choice is written in full.
 abbrev pub RanksInFull : RankCause → Type 0
 RanksInFull ranks.Value = Unit {0}
 RanksInFull ranks.Choice = Unit {0}
 RanksInFull (ranks.Short k) = IsInFull k
 RanksInFull (ranks.NoStep k) = IsInFull k
 
--- the numbers that say where and why a certificate is refused are written in full
+-- The numbers that say where and why a certificate is refused are written in full.
 abbrev pub CertificateInFull : AuditFault → Type 0
 CertificateInFull (audit.Text fault) = IsInFull fault.line
 CertificateInFull (audit.Upper fault) = IsInFull fault.state × UpperInFull fault.cause
 CertificateInFull (audit.Ranks fault) = IsInFull fault.state × RanksInFull fault.cause
 
--- every number of the refusal has at most 64 digits, as its types hold it
+-- Every number of the refusal is written in full.
 abbrev pub RefusalInFull : Refusal → Type 0
 RefusalInFull (OfTra fault) = IsInFull fault.line × TraInFull fault.cause
 RefusalInFull (OfLab fault) = IsInFull fault.line × LabInFull fault.cause

@@ -1,4 +1,4 @@
-//! The printed names of the causes, with what they carry.
+//! This module has the printed names of the causes, with what they carry.
 
 ghost use Rattle.std.specs.Prelude.{◌≡◌, IfOk};
 ghost use Rattle.std.specs.String.{string_bytes};
@@ -15,7 +15,7 @@ use std::alloc::{AllocError, Global};
 use transition_lines::TraCause;
 use values_reader::ValuesCause;
 
-/// Why a text spells no probability.
+/// Returns why a text spells no probability.
 pub fn number_cause(fault: NumberFault) -> &'static str
     ensures { result.now ≡ number_text fault }
 {
@@ -48,14 +48,14 @@ fn choice_cause(
     }
 }
 
-// Where a choice stands.
+// Returns where a choice is.
 fn choice_place(alloc: Global, state: u32, choice: u32) -> Result<String, AllocError>
     ensures { IfOk result (λ said. string_bytes said ≡ choice_place_text state choice) }
 {
     format!(in alloc; " state {state} choice {choice}")
 }
 
-/// Why a text denotes no game.
+/// Returns why a text denotes no game.
 pub fn tra_cause(alloc: Global, cause: TraCause) -> Result<String, AllocError>
     ensures { IfOk result (λ said. string_bytes said ≡ tra_text cause) }
 {
@@ -92,7 +92,7 @@ pub fn tra_cause(alloc: Global, cause: TraCause) -> Result<String, AllocError>
     }
 }
 
-/// Why a text denotes no labels, or no owners.
+/// Returns why a text denotes no labels, or no owners.
 pub fn lab_cause(alloc: Global, cause: LabCause) -> Result<String, AllocError>
     ensures { IfOk result (λ said. string_bytes said ≡ lab_text cause) }
 {
@@ -110,7 +110,7 @@ pub fn lab_cause(alloc: Global, cause: LabCause) -> Result<String, AllocError>
     }
 }
 
-/// Why a text is no formula.
+/// Returns why a text is no formula.
 pub fn formula_cause(alloc: Global, cause: FormulaCause) -> Result<String, AllocError>
     ensures { IfOk result (λ said. string_bytes said ≡ formula_text cause) }
 {
@@ -130,7 +130,7 @@ pub fn formula_cause(alloc: Global, cause: FormulaCause) -> Result<String, Alloc
     }
 }
 
-/// Why a text has no certificate.
+/// Returns why a text has no certificate.
 pub fn plan_cause(cause: PlanCause) -> &'static str
     ensures { result.now ≡ plan_cause_text cause }
 {
@@ -145,7 +145,7 @@ pub fn plan_cause(cause: PlanCause) -> &'static str
     }
 }
 
-/// Why an upper table, or a reply to it, is refused at a state.
+/// Returns why an upper table, or a reply to it, is refused at a state.
 pub fn upper_cause(alloc: Global, state: u32, cause: UpperCause) -> Result<String, AllocError>
     ensures { IfOk result (λ said. string_bytes said ≡ upper_text state cause) }
 {
@@ -158,7 +158,7 @@ pub fn upper_cause(alloc: Global, state: u32, cause: UpperCause) -> Result<Strin
     }
 }
 
-/// Why values, choices and ranks are refused at a state.
+/// Returns why values, choices and ranks are refused at a state.
 pub fn ranks_cause(alloc: Global, state: u32, cause: RankCause) -> Result<String, AllocError>
     ensures { IfOk result (λ said. string_bytes said ≡ ranks_text state cause) }
 {
@@ -170,7 +170,7 @@ pub fn ranks_cause(alloc: Global, state: u32, cause: RankCause) -> Result<String
     }
 }
 
-/// Why a text has no values.
+/// Returns why a text has no values.
 pub fn values_cause(cause: ValuesCause) -> &'static str
     ensures { result.now ≡ values_text cause }
 {

@@ -1,4 +1,4 @@
-//! What every refusal keeps, since its types hold its numbers.
+//! This module has what is true of every refusal, because its types bound its numbers.
 
 ghost use Rattle.run_refusals.specs.InFull.{IsInFull, ChoiceInFull, TraInFull, LabInFull, CertificateInFull};
 
@@ -31,7 +31,7 @@ fn known_of_certificate(fault: AuditFault)
 impl Refusal {
     ghost use Rattle.run_refusals.specs.InFull.{RefusalInFull};
 
-    /// Its numbers are written in full.
+    /// Tells a proof that the numbers of a refusal are written in full. It does nothing.
     pub fn known(&self)
         ensures { RefusalInFull self.now }
     {

@@ -1,4 +1,4 @@
-//! Why a run is refused, and the line that says so.
+//! This module says why a run is refused, and makes the line that says so.
 
 ghost use Rattle.std.specs.Prelude.{◌≡◌, ◌++◌, IfOk, codes};
 ghost use Rattle.std.specs.String.{string_bytes};
@@ -15,7 +15,7 @@ use std::alloc::{AllocError, Global};
 use transition_lines::TraFault;
 use values_reader::ValuesFault;
 
-/// Which text of a run.
+/// This is one of the texts of a run.
 #[derive(Clone, Copy, Debug, PartialEq, Eq)]
 pub enum Text {
     Tra,
@@ -28,7 +28,7 @@ pub enum Text {
 impl Text {
     ghost use Rattle.run_refusals.specs.Refusals.{name_of_text};
 
-    /// The name of the text in a refusal line.
+    /// Returns the name of the text in a refusal line.
     pub fn name(self) -> &'static str
         ensures { result.now ≡ name_of_text self }
     {
@@ -42,30 +42,30 @@ impl Text {
     }
 }
 
-/// The first fault of what a run was given.
+/// This is the first fault of what a run was given.
 #[derive(Drop)]
 pub enum Refusal {
-    /// A fault of the transition file.
+    /// The transition file has a fault.
     OfTra(TraFault),
-    /// A fault of the label file.
+    /// The label file has a fault.
     OfLab(LabFault),
-    /// A fault of the owner file.
+    /// The owner file has a fault.
     OfOwn(LabFault),
-    /// A fault of the formula.
+    /// The formula has a fault.
     OfFormula(FormulaFault),
     /// The formula poses no question.
     OfQuestion(PoseFault),
-    /// The command takes no formula with such a path.
+    /// The command does not take such a formula.
     WrongKind,
-    /// A fault of the certificate.
+    /// The certificate has a fault.
     OfCertificate(AuditFault),
-    /// A fault of the file of values.
+    /// The file of values has a fault.
     OfValues(ValuesFault),
     /// A file has more bytes than are read.
     TooLong(Text),
 }
 
-/// The line that says why a run is refused.
+/// Returns the line that says why a run is refused.
 pub fn refusal_line(alloc: Global, refusal: &Refusal) -> Result<Vec<u8>, AllocError>
     ensures { IfOk result (λ line. line.items ≡ refusal_text refusal.now) }
 {
@@ -93,7 +93,7 @@ pub fn refusal_line(alloc: Global, refusal: &Refusal) -> Result<Vec<u8>, AllocEr
     }
 }
 
-// The line of a fault of the formula.
+// Returns the line of a fault of the formula.
 fn formula_line(alloc: Global, fault: &FormulaFault) -> Result<Vec<u8>, AllocError>
     ensures { IfOk result (λ line. line.items ≡ formula_refused fault.now) }
 {
@@ -103,7 +103,7 @@ fn formula_line(alloc: Global, fault: &FormulaFault) -> Result<Vec<u8>, AllocErr
     Ok(line.into_bytes())
 }
 
-// The line of a fault of the question. A name is printed as its bytes.
+// Returns the line of a fault of the question. A name is printed as its bytes.
 fn question_line(alloc: Global, fault: &PoseFault) -> Result<Vec<u8>, AllocError>
     ensures { IfOk result (λ line. line.items ≡ question_refused fault.now) }
 {
@@ -126,7 +126,7 @@ fn question_cause(alloc: Global, cause: &[u8], name: &[u8]) -> Result<Vec<u8>, A
     Ok(line)
 }
 
-// The line of a fault of the certificate: of its text, with the line, or of what it says, with the state.
+// Returns the line of a fault of the certificate: of its text, with the line, or of what it says, with the state.
 fn certificate_line(alloc: Global, fault: AuditFault) -> Result<Vec<u8>, AllocError>
     ensures { IfOk result (λ line. line.items ≡ certificate_refused fault) }
 {
@@ -143,7 +143,7 @@ fn certificate_line(alloc: Global, fault: AuditFault) -> Result<Vec<u8>, AllocEr
     }
 }
 
-// The line of a fault of a file.
+// Returns the line of a fault of a file.
 fn refused(alloc: Global, text: Text, line: u32, cause: &str) -> Result<Vec<u8>, AllocError>
     ensures { IfOk result (λ said. said.items ≡ refused_line text line cause.now) }
 {
@@ -152,7 +152,7 @@ fn refused(alloc: Global, text: Text, line: u32, cause: &str) -> Result<Vec<u8>,
     Ok(said.into_bytes())
 }
 
-/// The line that says what words are taken.
+/// Returns the line that says what words are taken.
 pub fn usage_line(alloc: Global) -> Result<String, AllocError>
     ensures { IfOk result (λ line. string_bytes line ≡ usage_text) }
 {

@@ -1,11 +1,10 @@
-//! Games with their questions: a coin that is thrown again and again, and an agreement protocol.
+//! These are games with their questions: a coin that is thrown again and again, and an agreement protocol.
 
 use crate::draft::{Draft, question_with};
 use game_model::{Game, Question};
 use std::alloc::Global;
 
-/// A coin is thrown again and again: at state 0 it stands with weight 2, wins with weight 1 and is lost
-/// with weight 1.
+/// A coin is thrown again and again. State 0 stays with weight 2, wins with weight 1 and loses with weight 1.
 pub fn coin_game(alloc: Global) -> Option<Game> {
     let mut draft = Draft::new(alloc, 3);
     draft.one(alloc, &[(0, 2), (1, 1), (2, 1)])?;
@@ -19,7 +18,7 @@ pub fn coin_question(alloc: Global, game: &Game) -> Option<Question<'_>> {
     question_with(alloc, game, &[], &[1], &[])
 }
 
-/// A randomised agreement protocol between two processes.
+/// This is a randomised agreement protocol between two processes.
 pub fn agreement_game(alloc: Global) -> Option<Game> {
     let mut draft = Draft::new(alloc, 12);
     draft.two(alloc, &[(1, 1), (2, 1), (3, 1)], &[(9, 1)])?;

@@ -1,4 +1,4 @@
-//! Games from lists of edges.
+//! This module makes games from lists of edges.
 
 ghost use Rattle.std.specs.Prelude.{◌≡◌, ℕ, ◌+◌, ◌*◌, ◌<◌, ◌≤◌, All, IfOk, IfSome, length, slice_index_or, true, false};
 ghost use Rattle.game_model.specs.Limits.{most_choices};
@@ -9,16 +9,16 @@ use std::alloc::Global;
 use std::mem::replace;
 use std::test::Fail;
 
-/// The most choices of a state of a draft.
+/// A state of a draft has at most this many choices.
 const MOST_CHOICES: usize = 8;
 
-/// The most edges of a choice of a draft.
+/// A choice of a draft has at most this many edges.
 const MOST_EDGES: usize = 8;
 
-/// The greatest weight of a draft.
+/// A weight of a draft is at most this number.
 const MOST_WEIGHT: u64 = 1_000_000_000_000_000_000;
 
-/// A game that is being made: the states that are made, and the choices so far of the next one.
+/// A game is being made: it has the states that are made, and the choices so far of the next state.
 #[derive(Drop)]
 pub struct Draft {
     states: u32,
@@ -32,7 +32,7 @@ pub struct Draft {
 }
 
 impl Draft {
-    /// A game of so many states, of which none is made.
+    /// Begins a game of this many states, of which none is made.
     pub fn new(alloc: Global, states: u32) -> Draft {
         Draft {
             states,
@@ -50,7 +50,7 @@ impl Draft {
         self.next.push(made).ok()
     }
 
-    /// The next state is made, where it has a choice.
+    /// Makes the next state, if it has a choice.
     pub fn end_state(&mut self, alloc: Global) -> Option<()> {
         if self.next.is_empty() {
             return None;
@@ -59,7 +59,7 @@ impl Draft {
         self.all.push(made).ok()
     }
 
-    /// The next state, with these choices.
+    /// Makes the next state with these choices.
     pub fn state(&mut self, alloc: Global, choices: &[&[(u32, u64)]]) -> Option<()> {
         for edges in choices {
             self.choice(alloc, edges)?;
@@ -67,13 +67,13 @@ impl Draft {
         self.end_state(alloc)
     }
 
-    /// The next state, with one choice.
+    /// Makes the next state with one choice.
     pub fn one(&mut self, alloc: Global, edges: &[(u32, u64)]) -> Option<()> {
         self.choice(alloc, edges)?;
         self.end_state(alloc)
     }
 
-    /// The next state, with two choices.
+    /// Makes the next state with two choices.
     pub fn two(
         &mut self,
         alloc: Global,
@@ -84,7 +84,7 @@ impl Draft {
         self.one(alloc, second)
     }
 
-    /// The game, where all its states are made.
+    /// Returns the game if all its states are made.
     pub fn game(self, alloc: Global) -> Option<Game> {
         let Draft {
             states,
@@ -97,7 +97,7 @@ impl Draft {
         Game::from_choices(alloc, all).ok()
     }
 
-    /// The game, where it has so many states.
+    /// Returns the game if it has this many states.
     pub(crate) fn game_with(self, alloc: Global, states: usize) -> Result<Game, Fail>
         ensures { IfOk result (λ game. length game ≡ states) }
     {
@@ -108,8 +108,8 @@ impl Draft {
     }
 }
 
-/// The game of these states: each has these choices, and each choice these successors, by rising number, with these
-/// weights.
+/// Makes the game of these states. Each state has these choices, and each choice has these successors, in rising order,
+/// with these weights.
 pub fn game_of(alloc: Global, states: &[&[&[(u32, u64)]]]) -> Result<Game, Fail>
     ensures { IfOk result (λ game. length game ≡ length states.now) }
 {
@@ -125,7 +125,7 @@ pub fn game_of(alloc: Global, states: &[&[&[(u32, u64)]]]) -> Result<Game, Fail>
     draft.game_with(alloc, states.len())
 }
 
-/// The edges of a choice by rising successor, the parts of one successor as one.
+/// Sorts the edges of a choice by successor and joins the parts of one successor.
 pub(crate) fn merged(alloc: Global, parts: &[(u32, u64)]) -> Option<Vec<(u32, u64)>> {
     let mut sorted = parts.to_vec(alloc).ok()?;
     sorted.sort().ok()?;
@@ -144,7 +144,7 @@ pub(crate) fn merged(alloc: Global, parts: &[(u32, u64)]) -> Option<Vec<(u32, u6
     Some(edges)
 }
 
-// The choice with these edges, where there are some, but not too many, and they rise.
+// Makes the choice with these edges, if there are some but not too many, and they rise.
 fn choice(alloc: Global, states: u32, edges: &[(u32, u64)]) -> Option<Choice>
     ensures { IfSome result (λ m. All (λ e. e.to < states) m.edges) }
 {
@@ -174,7 +174,7 @@ fn choice(alloc: Global, states: u32, edges: &[(u32, u64)]) -> Option<Choice>
     Some(Choice::of_edges(made))
 }
 
-/// The question that these lists pose, where they are long enough and no state is both goal and dead.
+/// Poses the question of these lists, if each has one entry per state and no state is both goal and dead.
 pub(crate) fn question(
     game: &Game,
     sides: Vec<Side>,
@@ -191,7 +191,7 @@ pub(crate) fn question(
     Some(Question::build(game, sides, goal, dead))
 }
 
-/// The question where these states are the minimiser's, these are goals and these are dead.
+/// Poses the question with these states of the minimiser, these goals and these dead states.
 pub fn question_with<'g>(
     alloc: Global,
     game: &'g Game,
@@ -211,7 +211,7 @@ pub fn question_with<'g>(
     lists.question(game)
 }
 
-/// The lists of a question that is being made, state after state.
+/// These are the lists of a question that is being made state by state.
 #[derive(Drop)]
 pub(crate) struct Lists {
     sides: Vec<Side>,
@@ -220,7 +220,7 @@ pub(crate) struct Lists {
 }
 
 impl Lists {
-    /// The lists of no states.
+    /// Makes the lists of no states.
     pub(crate) fn new(alloc: Global) -> Lists {
         Lists {
             sides: Vec::new(alloc),
@@ -236,7 +236,7 @@ impl Lists {
         self.deads.push(is_dead).ok()
     }
 
-    /// The question of these lists.
+    /// Poses the question of these lists.
     pub(crate) fn question(self, game: &Game) -> Option<Question<'_>> {
         let Lists {
             sides,
@@ -247,7 +247,7 @@ impl Lists {
     }
 }
 
-// Whether no state is both.
+// Returns whether no state is both goal and dead.
 fn are_apart(goal: &[bool], dead: &[bool]) -> bool
     requires { length goal.now ≡ length dead.now }
     ensures { OnTrue result ((s : ℕ) → slice_index_or goal.now s false ≡ true

@@ -1,14 +1,14 @@
-//! Comparisons for tests, whose errors say what was found and what was expected.
+//! These are comparisons for tests. Their errors say what was found and what was expected.
 //!
-//! An assertion ends the process, and each one is proved with its text at the place where it stands. These are proved
-//! once; a test hands their errors on with `?`, and with them the words that tell its rows apart.
+//! An assertion ends the process, and each one is proved with its text at the place where it is made. These are proved
+//! once. A test hands on their errors with `?`, and with them the words that tell its rows apart.
 
 ghost use Rattle.std.specs.Prelude.{◌≡◌, ◌↔◌, IsOk, IsTrue, true};
 
 use std::fmt::{Debug, Display};
 use std::test::Fail;
 
-/// Ok where a test found what it wanted, by `==`; else what was found, and what was wanted.
+/// Returns Ok if a test found what it wanted, by `==`, or else what was found and what was wanted.
 pub fn same<D: Display + Drop, T: PartialEq + Debug + Drop>(
     what: D,
     found: T,
@@ -23,7 +23,7 @@ pub fn same<D: Display + Drop, T: PartialEq + Debug + Drop>(
     }
 }
 
-/// Ok where a fact holds; else its words.
+/// Returns Ok if a fact holds, or else its words.
 pub fn holds<D: Display + Drop>(what: D, fact: bool) -> Result<(), Fail>
     ensures { IsOk result ↔ IsTrue fact }
 {

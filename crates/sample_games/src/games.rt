@@ -1,4 +1,4 @@
-//! Worked games.
+//! These are worked games.
 
 ghost use Rattle.std.specs.Prelude.{◌≡◌, length, IfOk};
 
@@ -7,7 +7,7 @@ use game_model::Game;
 use std::alloc::Global;
 use std::test::Fail;
 
-/// The coin loop: state 0 stays with probability 1/2, and goes to 1 and to 2 with 1/4 each; 1 and 2 stay.
+/// In the coin loop, state 0 stays with probability 1/2, and goes to 1 and to 2 with 1/4 each; 1 and 2 stay.
 pub fn coin_loop(alloc: Global) -> Result<Game, Fail>
     ensures { IfOk result (λ game. length game ≡ 3) }
 {
@@ -43,7 +43,7 @@ pub fn goal_or_sink(alloc: Global) -> Result<Game, Fail>
     )
 }
 
-/// A chain: each state goes to the next; the last one stays.
+/// In a chain, each state goes to the next one, and the last one stays.
 pub fn chain(alloc: Global, count: u32) -> Result<Game, Fail>
     ensures { IfOk result (λ game. length game ≡ count) }
 {
@@ -55,7 +55,7 @@ pub fn chain(alloc: Global, count: u32) -> Result<Game, Fail>
     draft.game_with(alloc, count as usize)
 }
 
-/// One state that stays where it is.
+/// There is one state, which stays where it is.
 pub fn one_state(alloc: Global) -> Result<Game, Fail>
     ensures { IfOk result (λ game. length game ≡ 1) }
 {

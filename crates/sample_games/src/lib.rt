@@ -1,5 +1,5 @@
-//! What tests share: games, small ones, games of a known shape, and games that are drawn at random; the drafts that they
-//! are made from; and [`expectations`], comparisons whose errors say what was found.
+//! This crate holds what tests share: small games, games of a known shape, games that are drawn at random, the drafts
+//! that they are made from, and [`expectations`], which are comparisons whose errors say what was found.
 #![tactic(auto)]
 
 mod asked_games;

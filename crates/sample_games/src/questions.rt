@@ -1,11 +1,11 @@
-//! The lists of a question, and questions of one goal.
+//! These are the lists of a question, and questions with one goal.
 
 ghost use Rattle.std.specs.Prelude.{◌≡◌, ◌≢◌, ℕ, ◌<◌, length, All, slice_index_or, true, false, IfOk};
 
 use game_model::{Game, Question, Side};
 use std::alloc::{AllocError, Global};
 
-// One side at all states.
+// One side owns all states.
 fn all_of(alloc: Global, side: Side, states: u32) -> Result<Vec<Side>, AllocError>
     ensures { IfOk result (λ sides. length sides.items ≡ states) }
 {
@@ -16,7 +16,7 @@ fn all_of(alloc: Global, side: Side, states: u32) -> Result<Vec<Side>, AllocErro
     Ok(sides)
 }
 
-// The minimiser at one state, the maximiser at the others.
+// The minimiser owns one state, and the maximiser owns the others.
 fn least_at(alloc: Global, place: u32, states: u32) -> Result<Vec<Side>, AllocError>
     requires { place < states }
     ensures { IfOk result (λ sides. length sides.items ≡ states) }
@@ -26,7 +26,7 @@ fn least_at(alloc: Global, place: u32, states: u32) -> Result<Vec<Side>, AllocEr
     Ok(sides)
 }
 
-// The marks of one state alone; of none where it is past the last.
+// Marks one state only, or none if it is past the last.
 fn only(alloc: Global, marked: u32, states: u32) -> Result<Vec<bool>, AllocError>
     ensures many { IfOk result (λ marks. length marks.items ≡ states) }
     ensures marks { IfOk result (λ marks. (s : ℕ) → slice_index_or marks.items s false ≡ true → s ≡ marked) }
@@ -38,7 +38,7 @@ fn only(alloc: Global, marked: u32, states: u32) -> Result<Vec<bool>, AllocError
     Ok(marks)
 }
 
-// Marks of no state.
+// Marks no state.
 fn none_of(alloc: Global, states: u32) -> Result<Vec<bool>, AllocError>
     ensures many { IfOk result (λ marks. length marks.items ≡ states) }
     ensures none { IfOk result (λ marks. All (λ b. b ≡ false) marks.items) }
@@ -50,8 +50,8 @@ fn none_of(alloc: Global, states: u32) -> Result<Vec<bool>, AllocError>
     Ok(marks)
 }
 
-/// How likely is this goal reached, where one side chooses at all states? None is dead, and none is a goal where it is
-/// past the last.
+/// Asks how likely this goal is reached if one side chooses at all states. No state is dead. No state is a goal if the
+/// goal is past the last state.
 pub fn question_of(
     alloc: Global,
     game: &Game,
@@ -64,8 +64,8 @@ pub fn question_of(
     question_of_sides(alloc, game, sides, goal)
 }
 
-// How likely is this goal reached, where these sides choose? None is dead, and none is a goal where it is past the
-// last.
+// Asks how likely this goal is reached if these sides choose. No state is dead. No state is a goal if the goal is past
+// the last state.
 fn question_of_sides(
     alloc: Global,
     game: &Game,
@@ -80,8 +80,8 @@ fn question_of_sides(
     Ok(Question::build(game, sides, goals, none_of(alloc, states)?))
 }
 
-/// How likely is this goal reached, where the minimiser chooses at one state and the maximiser at the others? None is
-/// dead.
+/// Asks how likely this goal is reached if the minimiser chooses at one state and the maximiser at the others. No state
+/// is dead.
 pub fn question_with_minimiser_at(
     alloc: Global,
     game: &Game,
@@ -95,8 +95,8 @@ pub fn question_with_minimiser_at(
     question_of_sides(alloc, game, sides, goal)
 }
 
-/// How likely is this goal reached, where one side chooses at all states and one state is dead? None is a goal, or
-/// dead, where it is past the last.
+/// Asks how likely this goal is reached if one side chooses at all states and one state is dead. A goal or a dead state
+/// past the last state does not count.
 pub fn question_with_dead(
     alloc: Global,
     game: &Game,

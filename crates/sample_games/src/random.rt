@@ -1,4 +1,4 @@
-//! Random small games, the same for the same seed.
+//! These are random small games, the same for the same seed.
 
 ghost use Rattle.std.specs.Prelude.{◌<◌, ◌≤◌};
 
@@ -6,7 +6,7 @@ use crate::draft::{Draft, merged};
 use game_model::Game;
 use std::alloc::Global;
 
-/// Numbers that are drawn one after another (a linear congruential generator: Knuth, The Art of Computer Programming,
+/// The numbers are drawn one after another (a linear congruential generator: Knuth, The Art of Computer Programming,
 /// volume 2, section 3.2.1).
 #[derive(Drop)]
 pub struct Draw {
@@ -14,12 +14,12 @@ pub struct Draw {
 }
 
 impl Draw {
-    /// The numbers of a seed.
+    /// Begins the numbers of a seed.
     pub fn new(seed: u64) -> Draw {
         Draw { state: seed }
     }
 
-    /// The next number, from the least one to the most; the least where that is above the most.
+    /// Draws the next number, from the least one to the most, or the least if that is above the most.
     pub fn between(&mut self, least: u32, most: u32) -> u32
         ensures above { least ≤ result }
         ensures within { least ≤ most → result ≤ most }
@@ -28,7 +28,7 @@ impl Draw {
         least + self.below(count) as u32
     }
 
-    /// The next number, below a limit.
+    /// Draws the next number, below a limit.
     pub fn below(&mut self, limit: usize) -> usize
         requires { 0 < limit }
         ensures { result < limit }
@@ -41,7 +41,7 @@ impl Draw {
     }
 }
 
-/// Which games are drawn. Each number is that of the largest game, but the first.
+/// These numbers say which games are drawn. Each one except the first is the greatest that a game may have.
 #[derive(Clone, Copy)]
 pub struct Shape {
     pub least_states: u32,
@@ -49,11 +49,11 @@ pub struct Shape {
     pub most_choices: u32,
     pub most_successors: u32,
     pub most_weight: u32,
-    /// How many choices of the game may have several successors.
+    /// At most this many choices of the game may have several successors.
     pub most_tosses: u32,
 }
 
-/// A random game.
+/// Draws a random game.
 pub fn random_game(alloc: Global, draw: &mut Draw, shape: &Shape) -> Option<Game> {
     let states = draw.between(shape.least_states, shape.most_states);
     let mut draft = Draft::new(alloc, states);
@@ -64,7 +64,7 @@ pub fn random_game(alloc: Global, draw: &mut Draw, shape: &Shape) -> Option<Game
     draft.game(alloc)
 }
 
-// Adds the next state. It gives how many choices behind it may have several successors.
+// Adds the next state. It returns how many of the later choices may have several successors.
 fn add_state(
     alloc: Global,
     draw: &mut Draw,
@@ -89,7 +89,7 @@ fn add_state(
     Some(left)
 }
 
-// The edges of a choice with at most so many successors.
+// Draws the edges of a choice with at most this many successors.
 fn random_edges(
     alloc: Global,
     draw: &mut Draw,

@@ -1,4 +1,4 @@
-//! Games with traps.
+//! These are games with traps.
 
 ghost use Rattle.std.specs.Prelude.{◌≡◌, length, IfOk};
 

@@ -1,5 +1,4 @@
-//! Structured games of one player, made as the tool of the measurements makes its models: the states are numbered and
-//! the weights are per cent as there.
+//! These are structured games of one player. Their weights are per cent, or per ten thousand for the contract.
 
 pub mod contract;
 mod numbered;
@@ -11,7 +10,7 @@ use crate::draft::question;
 use game_model::{Game, Question, Side};
 use std::alloc::Global;
 
-/// A game and its goal states.
+/// A model has a game and its goal states.
 #[derive(Drop)]
 pub struct Model {
     pub game: Game,
@@ -19,7 +18,7 @@ pub struct Model {
 }
 
 impl Model {
-    /// How likely can a goal be reached by a player of this side, who chooses everywhere?
+    /// Asks how likely a goal can be reached by a player of this side, who chooses everywhere.
     pub fn question(&self, alloc: Global, side: Side) -> Option<Question<'_>> {
         let states = self.game.states() as usize;
         question(

@@ -1,4 +1,4 @@
-//! Worked sweeps.
+//! These are worked sweeps.
 
 ghost use Rattle.std.specs.Prelude.{◌≤◌};
 ghost use Rattle.bounded_rounds.specs.Limits.{most_steps};
@@ -21,7 +21,7 @@ fn the_coin_loop_step_by_step(rt: HostRuntime) -> Result<(), Fail> {
     check_coin_loop(&rt, alloc, &question_of(alloc, &game, Side::Max, 1)?)
 }
 
-/// The bounds of the coin loop, where the goal is state 1, after so many steps.
+/// The coin loop, whose goal is state 1, has these bounds after this many steps.
 fn check_coin_loop<R: Threads + Sync>(
     rt: &R,
     alloc: Global,
@@ -32,7 +32,7 @@ fn check_coin_loop<R: Threads + Sync>(
         (1, 250_000_000_000_000, 250_000_000_000_000),
         (2, 375_000_000_000_000, 375_000_000_000_000),
         (3, 437_500_000_000_000, 437_500_000_000_000),
-        // Both tables rest long before.
+        // Both tables stop changing long before.
         (MOST_STEPS, 499_999_999_999_999, 500_000_000_000_000),
     ] {
         check_steps(rt, alloc, question, *steps, (*lower, *upper))?;
@@ -40,7 +40,7 @@ fn check_coin_loop<R: Threads + Sync>(
     Ok(())
 }
 
-/// The bounds of state 0 of the coin loop after so many steps are these, with any number of workers.
+/// State 0 of the coin loop has these bounds after this many steps, with any number of workers.
 fn check_steps<R: Threads + Sync>(
     rt: &R,
     alloc: Global,
@@ -56,7 +56,7 @@ fn check_steps<R: Threads + Sync>(
     Ok(())
 }
 
-/// The same with so many workers.
+/// State 0 of the coin loop has these bounds with this many workers.
 fn check_bounds<R: Threads + Sync>(
     rt: &R,
     alloc: Global,
@@ -91,14 +91,14 @@ fn two_workers_run_at_once(rt: HostRuntime) -> Result<(), Fail> {
     holds("the workers ran at once", !gate.gave_up())
 }
 
-/// Two steps of the coin loop by two workers.
+/// Makes two steps of the coin loop by two workers.
 fn two_steps<R: Threads + Sync>(rt: &R, alloc: Global, gate: &HoldGate) -> Result<Sweep, Fail> {
     let game = coin_loop(alloc)?;
     let question = question_of(alloc, &game, Side::Max, 1)?;
     Ok(bounded(rt, alloc, &question, &[0, UNIT, 0], 2, 2, gate)?)
 }
 
-// Counts how often each of two workers passes it.
+// The gate counts how often each of two workers passes it.
 #[derive(Drop)]
 struct PairGate {
     first: AtomicU32,
@@ -116,10 +116,10 @@ impl Gate for PairGate {
     }
 }
 
-/// As many edges as make one more worker worth its thread; a chain has one for each state.
+/// With this many edges one more worker is worth its thread. A chain has one edge for each state.
 const MANY: u32 = 50_000;
 
-// Three steps of two workers over a chain of many states.
+// Makes three steps of two workers over a chain of many states.
 fn three_steps<R: Threads + Sync>(rt: &R, alloc: Global, gate: &PairGate) -> Result<Sweep, Fail> {
     let game = chain(alloc, MANY)?;
     let question = question_of(alloc, &game, Side::Max, MANY - 1)?;

@@ -1,4 +1,4 @@
-//! Worked brackets.
+//! These are worked brackets.
 
 ghost use Rattle.std.specs.Prelude.{◌≤◌};
 ghost use Rattle.round_workers.specs.Share.{most_workers};
@@ -16,7 +16,7 @@ use std::thread::Threads;
 use verdicts::{StopRule, settle};
 use zero_sets::zero_set;
 
-/// The bracket of a question that asks for the value at state 0.
+/// Computes the bracket of a question that asks for the value at state 0.
 pub(crate) fn value_bracket<R: Threads + Sync, G: Gate + Sync>(
     rt: &R,
     alloc: Global,
@@ -54,7 +54,7 @@ fn the_coin_loop_settles_at_round_50(rt: HostRuntime) -> Result<(), Fail> {
     check_coin_loop(&rt, alloc, &question_of(alloc, &game, Side::Max, 1)?)
 }
 
-/// Where the coin loop is after so many rounds at most.
+/// The coin loop has these values after at most this many rounds.
 fn check_coin_loop<R: Threads + Sync>(
     rt: &R,
     alloc: Global,
@@ -78,8 +78,8 @@ fn check_coin_loop<R: Threads + Sync>(
     Ok(())
 }
 
-/// After so many rounds at most, these are the base and the bounds of state 0 of the coin loop, and these are the
-/// rounds that it took and whether it settled.
+/// After at most this many rounds, the coin loop has this base and these bounds at state 0, took these rounds, and has
+/// settled or not.
 fn check_rounds<R: Threads + Sync>(
     rt: &R,
     alloc: Global,
@@ -116,7 +116,7 @@ fn the_first_player_chooses_the_better_lottery(rt: HostRuntime) -> Result<(), Fa
     Ok(())
 }
 
-/// The values, the choice and the reply of two players in the game of four states.
+/// Two players in the game of four states have these values, this choice and this reply.
 fn check_lotteries<R: Threads + Sync>(rt: &R, alloc: Global, workers: u32) -> Result<(), Fail>
     requires some { 1 ≤ workers }
     requires few { workers ≤ most_workers }
@@ -142,7 +142,7 @@ fn check_lotteries<R: Threads + Sync>(rt: &R, alloc: Global, workers: u32) -> Re
     )
 }
 
-// The bracket of two players in the game of four states, where the goal is state 2.
+// Computes the bracket of two players in the game of four states, where the goal is state 2.
 fn lottery_bracket<R: Threads + Sync>(rt: &R, alloc: Global, workers: u32) -> Result<Bracket, Fail>
     requires some { 1 ≤ workers }
     requires few { workers ≤ most_workers }
@@ -159,7 +159,7 @@ fn two_workers_run_at_once(rt: HostRuntime) -> Result<(), Fail> {
     holds("the workers ran at once", !gate.gave_up())
 }
 
-// How many rounds of the coin loop two workers make of ten.
+// Counts how many of ten rounds of the coin loop two workers make.
 fn rounds_through<R: Threads + Sync>(rt: &R, alloc: Global, gate: &HoldGate) -> Result<u32, Fail> {
     let game = coin_loop(alloc)?;
     let question = question_of(alloc, &game, Side::Max, 1)?;

@@ -1,5 +1,5 @@
-//! Measured widths of brackets, beside what is proved of them: where plays come to an end they close as fast as they
-//! promise.
+//! These tests compare measured widths of brackets with what is proved of them: if plays come to an end, brackets close
+//! as fast as they promise.
 
 use crate::brackets::value_bracket;
 use game_model::{Game, Question, UNIT};
@@ -10,14 +10,15 @@ use std::alloc::Global;
 use std::test::Fail;
 use std::thread::Threads;
 
-// From each state, however both play, the play is over within so many steps with a probability of one part of so many.
+// From each state, however both sides play, the play is over within this many steps with a probability of at least one
+// part of this many.
 #[derive(Clone, Copy)]
 struct Ending {
     steps: u32,
     parts: u128,
 }
 
-// A number to a power, where it fits.
+// Computes a power of a number, if it fits.
 fn power(base: u128, exponent: u32) -> Option<u128> {
     let mut found = 1_u128;
     for _factor in 0..exponent {
@@ -26,7 +27,7 @@ fn power(base: u128, exponent: u32) -> Option<u128> {
     Some(found)
 }
 
-// Whether two bounds are as close as so many rounds promise. None where the numbers do not fit.
+// Returns whether two bounds are as close as this many rounds promise, or nothing if the numbers do not fit.
 fn are_close(ending: Ending, rounds: u32, lower: u64, upper: u64) -> Option<bool> {
     let turns = rounds.checked_div(ending.steps)?;
     let whole = power(ending.parts, turns)?;
@@ -63,7 +64,7 @@ fn a_coin_that_falls_closes_its_bracket(rt: HostRuntime) -> Result<(), Fail> {
     closes(&rt, alloc, &question, ending)
 }
 
-// Two coins in turn: a play is over when the second one falls.
+// Two coins are thrown in turn, and a play is over when the second one falls.
 fn two_coins(alloc: Global) -> Option<Game> {
     let mut draft = Draft::new(alloc, 4);
     draft.one(alloc, &[(0, 1), (1, 1)])?;

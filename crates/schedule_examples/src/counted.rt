@@ -1,4 +1,4 @@
-//! A maker of tables that counts them.
+//! This maker of tables counts its up steps.
 
 ghost use Rattle.std.specs.Prelude.{◌≡◌, ◌≤◌, All, length};
 ghost use Rattle.game_model.specs.Dual.{IsZeroSet};
@@ -11,7 +11,7 @@ use std::sync::atomic::{AtomicU64, Ordering};
 use std::test::Fail;
 use upper_guess::{UpTables, Witnesses, guess_with};
 
-/// Fills tables as another maker does, and counts the up steps of whole tables; each takes the time of a sweep over all
+/// Fills tables as another maker does, and counts the up steps of whole tables. Each takes the time of a sweep over all
 /// edges.
 #[derive(Drop)]
 pub struct Counted<'m, M: UpTables> {
@@ -20,7 +20,7 @@ pub struct Counted<'m, M: UpTables> {
 }
 
 impl<'m, M: UpTables> Counted<'m, M> {
-    /// This maker, which has made no step.
+    /// Wraps this maker, before any step is made.
     pub(crate) fn of(maker: &'m M) -> Counted<'m, M>
         ensures { result.maker.now ≡ maker.now }
     {
@@ -30,14 +30,14 @@ impl<'m, M: UpTables> Counted<'m, M> {
         }
     }
 
-    /// How many up steps were made.
+    /// Returns how many up steps were made.
     pub(crate) fn up_steps(&self) -> u64 {
         self.count.load(Ordering::SeqCst)
     }
 }
 
 impl<M: UpTables> UpTables for Counted<'_, M> {
-    // What its maker needs.
+    // It can fill a table if its maker can.
     ghost can_fill = { M.can_fill };
 
     fn fill(&self, question: &Question, table: &[u64], next: &mut [u64]) {
@@ -46,7 +46,7 @@ impl<M: UpTables> UpTables for Counted<'_, M> {
     }
 }
 
-/// A guess, and how many up steps it took.
+/// Makes a guess, and counts how many up steps it took.
 pub(crate) fn guess_by<M: UpTables>(
     maker: &M,
     alloc: Global,

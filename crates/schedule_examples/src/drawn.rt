@@ -1,4 +1,4 @@
-//! Drawn games: the generator, a game worked out by hand, and the size of a large one.
+//! These tests draw games: they test the generator, a game worked out by hand, and the size of a large game.
 
 ghost use Rattle.std.specs.Prelude.{◌<◌, ◌≤◌, length};
 ghost use Rattle.drawn_game.specs.Limits.{least_states, most_seed};
@@ -21,7 +21,7 @@ fn the_generator_gives_the_known_draw() -> Result<(), Fail> {
     same("draw", draws.draw(), 399_268_537)
 }
 
-// A line for each state: its side, and of each choice the total and the edges.
+// Writes a line for each state: its side, and for each choice the total and the edges.
 fn text_of(alloc: Global, drawn: &Drawn) -> Result<String, AllocError> {
     let mut text = String::new(alloc);
     for state in 0..drawn.game().states() {
@@ -87,7 +87,7 @@ fn add_edge_text(
     text.push_str(format!(in alloc; " {to}:{weight}")?.as_str())
 }
 
-// The text of the game that is drawn.
+// Writes the text of the game that is drawn.
 fn drawn_text(alloc: Global, seed: u32, states: u32) -> Result<String, Fail>
     requires seed { (1 ≤ seed) × (seed ≤ most_seed) }
     requires states { (least_states ≤ states) × (states ≤ most_states) }
@@ -112,7 +112,7 @@ fn many_states_are_drawn(rt: HostRuntime) -> Result<(), Fail> {
     check_sizes(rt.alloc(), 1, 100_000, (200_100, 600_562))
 }
 
-/// The states, and the choices and edges of all of them.
+/// The drawn game has this many states, and this many choices and edges in all.
 fn check_sizes(alloc: Global, seed: u32, states: u32, wanted: (u64, u64)) -> Result<(), Fail>
     requires seed { (1 ≤ seed) × (seed ≤ most_seed) }
     requires states { (least_states ≤ states) × (states ≤ most_states) }

@@ -1,4 +1,4 @@
-//! A worked upper table: its check, its replies and their check, and the question of the other side.
+//! This is a worked upper table, with its check, its replies and their check, and the question of the other side.
 
 ghost use Rattle.std.specs.Prelude.{◌≡◌};
 ghost use Rattle.game_model.specs.Query.{states};
@@ -17,7 +17,7 @@ fn fault(state: u32, cause: UpperCause) -> UpperFault {
     UpperFault { state, cause }
 }
 
-/// What the check says of a table.
+/// The check says this of a table.
 fn check_table(
     question: &Question<'_>,
     table: &[u64; 3],
@@ -36,7 +36,7 @@ fn the_minimiser_replies_with_the_sink(rt: HostRuntime) -> Result<(), Fail> {
     check_sink(alloc, &question_of(alloc, &game, Side::Min, 1)?)
 }
 
-/// What the checks say where the minimiser chooses between goal and sink.
+/// The checks say this if the minimiser chooses between goal and sink.
 fn check_sink(alloc: Global, question: &Question<'_>) -> Result<(), Fail>
     requires { states question.now ≡ 3 }
 {
@@ -68,7 +68,7 @@ fn check_found(
     same("replies", found.as_slice(), wanted.as_slice())
 }
 
-/// This is what the check says of given replies to a table that passes its own.
+/// The check says this of given replies to a table that passes its own check.
 fn check_given(
     question: &Question<'_>,
     upper: &[u64; 3],

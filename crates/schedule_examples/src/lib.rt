@@ -1,7 +1,7 @@
-//! Tests of the crates that compute over games: events of a world, threads that race, workers, sweeps, brackets, and
-//! teams that guess; and a worked example of each call of these crates.
+//! These are the tests of the crates that compute over games: events of a world, threads that race, workers, sweeps,
+//! brackets, and teams that guess. Each call of these crates has a worked example.
 //!
-//! They stand over these crates, since a test in a crate proves that crate once more.
+//! The tests are in a crate above these crates, because a test in a crate proves that crate once more.
 #![tactic(auto)]
 
 #[cfg(test)]

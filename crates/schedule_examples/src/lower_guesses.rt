@@ -1,4 +1,4 @@
-//! Worked plans and lower guesses.
+//! These are worked plans and lower guesses.
 
 ghost use Rattle.std.specs.Prelude.{◌≡◌, length, IfOk};
 ghost use Rattle.game_model.specs.Query.{states};
@@ -15,7 +15,7 @@ use zero_sets::zero_set;
 
 const HALF: u64 = UNIT / 2;
 
-/// A plan of the maximiser for values that have one.
+/// Makes a plan of the maximiser for values that have one.
 fn plan_of(alloc: Global, question: &Question<'_>, values: &[u64]) -> Result<RankPlan, Fail>
     requires { length values.now ≡ states question.now }
     ensures many { IfOk result (λ plan. length plan.choices.items ≡ states question.now) }
@@ -45,7 +45,7 @@ fn check_plan(
     )
 }
 
-/// Values of a chain that have no plan.
+/// These values of a chain have no plan.
 const WITHOUT_A_PLAN: &[[u64; 4]] = &[
     [UNIT + 1, UNIT, UNIT, UNIT],
     [UNIT, UNIT, UNIT, UNIT - 1],
@@ -59,7 +59,7 @@ fn a_chain_has_a_layer_and_a_choice_for_each_state(rt: HostRuntime) -> Result<()
     check_chain(alloc, &question_of(alloc, &game, Side::Max, 3)?)
 }
 
-/// The plan of the chain, and the values that have none.
+/// The chain has this plan, and these values have none.
 fn check_chain(alloc: Global, question: &Question<'_>) -> Result<(), Fail>
     requires { states question.now ≡ 4 }
 {
@@ -71,7 +71,7 @@ fn check_chain(alloc: Global, question: &Question<'_>) -> Result<(), Fail>
     Ok(())
 }
 
-/// The lower guess of this value of state 0, where the goal is state 1, has this value, and this choice at state 0.
+/// The goal is state 1. The lower guess from this value of state 0 has this value and this choice at state 0.
 fn check_guess(
     alloc: Global,
     question: &Question<'_>,
@@ -97,7 +97,7 @@ fn check_guess(
     )
 }
 
-/// The lower guess over this table, by a plan for it.
+/// Makes the lower guess over this table by a plan for it.
 fn guess_of(alloc: Global, question: &Question<'_>, base: &[u64]) -> Result<LowerGuess, Fail>
     requires { length base.now ≡ states question.now }
 {
@@ -106,7 +106,7 @@ fn guess_of(alloc: Global, question: &Question<'_>, base: &[u64]) -> Result<Lowe
     Ok(lower_guess(alloc, &*question, &zero, &*base, &plan.choices)?)
 }
 
-/// The lower guesses of these values, where the maximiser chooses.
+/// These values have these lower guesses if the maximiser chooses.
 fn check_guesses(alloc: Global, game: &Game, rows: &[(u64, u64)], choice: u32) -> Result<(), Fail>
     requires { length game.now ≡ 3 }
 {
@@ -120,7 +120,8 @@ fn check_guesses(alloc: Global, game: &Game, rows: &[(u64, u64)], choice: u32) -
 #[test]
 fn the_coin_loop_is_met_in_the_limit(rt: HostRuntime) -> Result<(), Fail> {
     let alloc = rt.alloc();
-    // By 4 it falls to 3, to 1 and to 0 above one half; from far below by 4 at once.
+    // With an excess of 4 units, the table over `HALF - 1` falls from 3 units above one half to 1 and to 0. A table
+    // from far below is accepted with the whole excess.
     let rows = [(HALF - 1, HALF), (HALF, HALF), (0, 4), (HALF - 9, HALF - 5)];
     check_guesses(alloc, &coin_loop(alloc)?, &rows, 0)
 }

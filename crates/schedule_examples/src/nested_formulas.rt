@@ -1,4 +1,4 @@
-//! Worked formulas with formulas inside.
+//! These are worked formulas with others inside.
 
 ghost use Rattle.std.specs.Prelude.{◌≡◌, ◌≤◌, IfOk, length};
 ghost use Rattle.formula_reader.specs.Formula.{formulas_inside, tree_of};
@@ -21,12 +21,12 @@ use std::test::Fail;
 use std::thread::Threads;
 use verdicts::How;
 
-// The formula that a text spells.
+// Reads the formula that a text spells.
 fn formula_of(alloc: Global, text: &str) -> Result<Formula, Fail>
     ensures spellable { IfOk result (λ formula. IsSpellable (tree_of formula)) }
     ensures few { IfOk result (λ formula. formulas_inside (tree_of formula) ≤ longest) }
 {
-    // Three laws: these calls do nothing.
+    // These three calls do nothing: they are laws.
     formulas_are_those_that_a_text_denotes();
     formulas_of_texts_are_spellable();
     formulas_inside_are_few();
@@ -36,7 +36,7 @@ fn formula_of(alloc: Global, text: &str) -> Result<Formula, Fail>
     }
 }
 
-// The labels of three states in a short text.
+// Reads the labels of three states from a short text.
 fn labels_of(alloc: Global, text: &[u8]) -> Result<Labels, Fail>
     requires { length text.now ≤ 1000 }
     ensures { IfOk result (λ labels. labels.states ≡ 3) }
@@ -50,7 +50,7 @@ fn owner_of_coins(alloc: Global) -> Result<Owners, Fail>
     Ok(Owners::single(alloc, 3)?)
 }
 
-// The answer to a formula about the coin loop, by so many rounds of one worker.
+// Answers a formula about the coin loop by this many rounds of one worker.
 fn answer_of<R: Threads + Sync>(
     rt: &R,
     alloc: Global,
@@ -79,7 +79,7 @@ fn answer_of<R: Threads + Sync>(
     }
 }
 
-// What is open inside counts as false in the lower bound, and as true in the upper one.
+// What is open inside counts as false in the lower bound and as true in the upper bound.
 #[test]
 fn what_is_open_inside_is_open_both_ways(rt: HostRuntime) -> Result<(), Fail> {
     let text = "P>=0.4 [ F P>0.5 [ F \"goal\" ] ]";

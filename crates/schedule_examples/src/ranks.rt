@@ -1,4 +1,4 @@
-//! Worked values, choices and ranks.
+//! These are worked values, choices and ranks.
 
 ghost use Rattle.std.specs.Prelude.{◌≡◌, length};
 
@@ -11,7 +11,7 @@ use std::test::Fail;
 
 const FIFTH: u64 = UNIT / 5;
 
-/// Values, choices and ranks of four states that pass the check, and the least such ranks.
+/// These values, choices and wide ranks of four states pass the check, and the least ranks that do are given with them.
 struct Layers {
     values: [u64; 4],
     choices: [Option<u32>; 4],
@@ -19,7 +19,7 @@ struct Layers {
     least: [u32; 4],
 }
 
-/// One side chooses at all states of a game, and this is its goal: the check passes the layers, and finds the least.
+/// One side chooses at all states of a game with this goal. The check passes the layers, and the least ranks are found.
 fn check_layers(alloc: Global, game: &Game, side: Side, goal: u32, row: &Layers) -> Result<(), Fail>
     requires { length game.now ≡ 4 }
 {

@@ -1,4 +1,4 @@
-//! A worked trap and its lowered table.
+//! This is a worked trap with its lowered table.
 
 ghost use Rattle.std.specs.Prelude.{◌≡◌, ◌≤◌, length, slice_index, All, IsOk};
 ghost use Rattle.game_model.specs.Limits.{unit};
@@ -18,10 +18,10 @@ const ONE: u64 = UNIT;
 
 const HALF: u64 = UNIT / 2;
 
-/// An upper value that one guess gives where the value is one half.
+/// One guess gives this upper value if the value is one half.
 const HIGH: u64 = 562_949_953_421_312;
 
-/// Replies and an upper table, and the traps and the lowered table that are wanted.
+/// A row has replies and an upper table, and the traps and the lowered table that are wanted.
 #[derive(Clone, Copy)]
 struct Row<'a> {
     replies: &'a [Option<u32>],

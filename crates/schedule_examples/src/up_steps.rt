@@ -22,10 +22,10 @@ use std::thread::Threads;
 use upper_guess::{Alone, Witnesses, guess_with};
 use zero_sets::zero_set;
 
-/// The most up steps of whole tables that a guess is to make.
+/// A guess may make at most this many up steps of whole tables.
 const FEW: u64 = 60;
 
-// The up steps of the guess over the base after so many rounds.
+// Counts the up steps of the guess over the base after this many rounds.
 fn up_steps<R: Threads + Sync>(
     rt: &R,
     alloc: Global,
@@ -51,7 +51,7 @@ fn up_steps<R: Threads + Sync>(
     Ok(steps)
 }
 
-// Compares the up steps of the guess over the base after so many rounds.
+// The guess over the base after this many rounds makes this many up steps.
 fn makes_up_steps<R: Threads + Sync>(
     rt: &R,
     alloc: Global,
@@ -65,7 +65,7 @@ fn makes_up_steps<R: Threads + Sync>(
     same(rounds, made, count)
 }
 
-// The guess makes exactly so many up steps: without an excess it takes two at the values of the coin loop, and after
+// The guess makes exactly this many up steps. At the values of the coin loop it takes two without an excess. After
 // three rounds the first table of the excess that reaches one half is accepted.
 #[test]
 fn guesses_of_the_coin_loop_make_so_many_up_steps(rt: HostRuntime) -> Result<(), Fail> {
@@ -76,7 +76,7 @@ fn guesses_of_the_coin_loop_make_so_many_up_steps(rt: HostRuntime) -> Result<(),
     makes_up_steps(&rt, alloc, &question, 1_000, 2)
 }
 
-// The guess makes few up steps after so many rounds.
+// The guess makes few up steps after this many rounds.
 fn makes_few<R: Threads + Sync>(
     rt: &R,
     alloc: Global,
@@ -93,7 +93,7 @@ fn makes_few<R: Threads + Sync>(
     )
 }
 
-// It does so after few rounds and after many.
+// The guess makes few up steps after few rounds and after many.
 fn are_few<R: Threads + Sync>(
     rt: &R,
     alloc: Global,
@@ -105,7 +105,7 @@ fn are_few<R: Threads + Sync>(
     makes_few(rt, alloc, name, &question, 1_000)
 }
 
-// The same of a structured model, for a player of either side.
+// The guesses of a structured model make few up steps, for a player of either side.
 fn are_few_of<R: Threads + Sync>(
     rt: &R,
     alloc: Global,
@@ -117,13 +117,13 @@ fn are_few_of<R: Threads + Sync>(
     are_few(rt, alloc, name, model.question(alloc, Side::Min))
 }
 
-// The same of the coin loop.
+// The guesses of the coin loop make few up steps.
 fn are_few_of_the_coin<R: Threads + Sync>(rt: &R, alloc: Global) -> Result<(), Fail> {
     let game = coin_game(alloc).ok_or("the game")?;
     are_few(rt, alloc, "the coin loop", coin_question(alloc, &game))
 }
 
-// The same of the agreement protocol.
+// The guesses of the agreement protocol make few up steps.
 fn are_few_of_the_agreement<R: Threads + Sync>(rt: &R, alloc: Global) -> Result<(), Fail> {
     let game = agreement_game(alloc).ok_or("the game")?;
     are_few(
@@ -155,7 +155,7 @@ fn a_guess_looks_first_at_the_states_that_refused_the_last_one(
     check_steps(alloc, &question, &[0, 0, 0, 0, 0, 0, 0, UNIT])
 }
 
-// Two guesses over one table of a chain of eight states take 6 up steps, and 1 more.
+// The first of two guesses over one table of a chain of eight states takes 6 up steps, and the second takes 1 more.
 fn check_steps(alloc: Global, question: &Question<'_>, lower: &[u64]) -> Result<(), Fail>
     requires many { length lower.now ≡ states question.now }
     requires units { All (λ v. v ≤ unit) lower.now }
@@ -164,11 +164,11 @@ fn check_steps(alloc: Global, question: &Question<'_>, lower: &[u64]) -> Result<
     let zero = zero_set(alloc, question)?;
     let counted = Counted::of(&Alone {});
     let mut witnesses = Witnesses::none();
-    // The five tables without an excess are made, and each is refused at another state. These states refuse all others
-    // up to the one that has the unit everywhere.
+    // The five tables without an excess are made, and each is refused at another state. These states refuse all other
+    // tables up to the one that has the unit everywhere.
     guess_with(&counted, alloc, &*question, &zero, &*lower, &mut witnesses)?;
     let first = counted.up_steps();
-    // Now they refuse the five as well.
+    // Now these states refuse the five tables as well.
     guess_with(&counted, alloc, &*question, &zero, &*lower, &mut witnesses)?;
     same("up steps", (first, counted.up_steps()), (6, 7))
 }

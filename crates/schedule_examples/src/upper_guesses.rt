@@ -1,4 +1,4 @@
-//! Worked guesses, computed by hand.
+//! These guesses are computed by hand.
 
 ghost use Rattle.std.specs.Prelude.{◌≡◌};
 ghost use Rattle.game_model.specs.Query.{states};
@@ -11,14 +11,14 @@ use std::test::Fail;
 use upper_guess::guess;
 use zero_sets::zero_set;
 
-/// Values of state 0 of the coin loop, where the goal is state 1, each with the guess over it.
+/// Each row has a value of state 0 of the coin loop, whose goal is state 1, and the guess over it.
 const GUESSES: &[(u64, u64)] = &[
-    // It stays at one half, and is raised to it by an up step.
+    // The guess stays at one half, or an up step raises it to one half.
     (500_000_000_000_000, 500_000_000_000_000),
     (499_999_999_999_999, 500_000_000_000_000),
-    // An up step leaves half of what is wanting, so four of them are too few: it takes an excess.
+    // An up step leaves half of what is missing, so four up steps are too few, and the guess takes an excess.
     (499_999_999_999_900, 500_000_000_000_028),
-    // The first power of 2 that reaches it.
+    // The excess is the first power of 2 that reaches one half.
     (400_000_000_000_000, 540_737_488_355_328),
     (0, 562_949_953_421_312),
 ];

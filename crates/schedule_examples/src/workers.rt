@@ -37,7 +37,7 @@ fn sweeps<P: Posing>(table: &ValueTable<'_, P>, mut pass: Pass<P>, count: u32) -
     pass
 }
 
-// Two threads with a pass each. It gives the final words, and writes the values that the met pass has read.
+// Runs two threads with a pass each. It returns the final words, and writes the values that the met pass has read.
 fn two_threads<P: Posing + Send + Sync, R: Threads + Sync>(
     rt: &R,
     alloc: Global,
@@ -90,7 +90,7 @@ fn are_reached(seen: &[u64]) -> Result<(), Fail> {
     )
 }
 
-// Two threads reach the values of the question.
+// Two threads read no value above the final one, and reach what one thread reaches.
 fn race_reaches_the_values<R: Threads + Sync>(
     rt: &R,
     alloc: Global,
@@ -111,7 +111,7 @@ fn two_threads_race_over_the_agreement_protocol(rt: HostRuntime) -> Result<(), F
     race_reaches_the_values(&rt, alloc, &question)
 }
 
-// So many rounds of two workers over all states, from the opening on. It gives the final words.
+// Makes this many rounds of two workers over all states, from the opening table on. It returns the final words.
 fn rounds_over<P: Posing + Send + Sync, R: Threads + Sync>(
     rt: &R,
     alloc: Global,
@@ -132,7 +132,7 @@ fn rounds_over<P: Posing + Send + Sync, R: Threads + Sync>(
     table.close(alloc, pass).ok()
 }
 
-// The same, with all states marked.
+// Makes the rounds with all states marked.
 fn rounds<R: Threads + Sync>(
     rt: &R,
     alloc: Global,
@@ -179,7 +179,7 @@ fn repeat<P: Posing + Send + Sync, R: Threads + Sync>(
     pass
 }
 
-// The values of the first states of the agreement protocol.
+// The first states of the agreement protocol have these values.
 const VALUES: &[u64] = &[
     839_999_999_999_999,
     699_999_999_999_999,
@@ -187,7 +187,7 @@ const VALUES: &[u64] = &[
     919_999_999_999_999,
 ];
 
-// The words of twelve states have these values.
+// There are twelve words, and the first ones have these values.
 fn have_the_values(words: &[u64]) -> Result<(), Fail> {
     same("words", words.len(), 12)?;
     for (state, (word, value)) in words.iter().zip(VALUES.iter()).enumerate() {
@@ -216,7 +216,7 @@ fn two_workers_work_at_once_and_reach_the_values(rt: HostRuntime) -> Result<(), 
     rounds_reach_the_values(&rt, alloc, &question)
 }
 
-// How two workers share a game by edges.
+// Two workers share a game by edges in this way.
 fn are_shared(game: &Game) -> Result<(), Fail> {
     same("states", game.states(), 12)?;
     same("edges", game.edges_below(12), 20)?;

@@ -9,7 +9,7 @@ use std::alloc::Global;
 use std::test::Fail;
 use step_core::{Event, Refused, World, pack};
 
-// What a world says of an exchange of a word of the first state, by a view.
+// Says what a world answers to an exchange of a word of the first state by a view.
 fn exchanged(world: &mut World<'_>, view: u32, from: u64, to: u64) -> Result<(), Refused>
     ensures { length world.new.views ≡ length world.old.views }
 {
@@ -22,7 +22,7 @@ fn exchanged(world: &mut World<'_>, view: u32, from: u64, to: u64) -> Result<(),
     })
 }
 
-// The first view of a world wins an exchange and is refused two others, and a second view is split off.
+// The first view of a world wins an exchange and is refused two others. Then a second view is split off.
 fn takes_an_exchange(world: &mut World<'_>) -> Result<(), Fail>
     requires { length world.old.views ≡ 1 }
 {
@@ -42,8 +42,8 @@ fn takes_an_exchange(world: &mut World<'_>) -> Result<(), Fail>
     same("split", world.apply(Event::Split { view: 0 }), Ok(()))
 }
 
-// The second view loses no exchange of the word that it has seen, and wins one; the first loses one, and takes the
-// second in.
+// The second view may not lose an exchange of the word that it has seen, and wins one. The first view loses one, and
+// takes in the second view.
 fn takes_a_race(world: &mut World<'_>) -> Result<(), Fail> {
     let quarter = pack(UNIT / 4, 0);
     let higher = pack(UNIT / 8 * 3, 0);
@@ -60,7 +60,7 @@ fn takes_a_race(world: &mut World<'_>) -> Result<(), Fail> {
     )
 }
 
-// A world of a question takes both.
+// A world of a question takes the exchange and the race.
 fn takes_events(alloc: Global, question: &Question<'_>) -> Result<(), Fail> {
     let mut world = World::start(alloc, question)?;
     takes_an_exchange(&mut world)?;

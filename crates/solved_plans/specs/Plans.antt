@@ -1,4 +1,4 @@
--- What the bounds of a plan decide.
+-- This module says what the bounds of a plan decide.
 use Rattle.std.specs.Prelude.{◌≡◌, ℕ, ◌<◌, ◌↔◌, slice_index}
 use Rattle.game_model.specs.Query.{Query, states}
 use Rattle.game_model.specs.Values.{numerator}
@@ -6,16 +6,16 @@ use Rattle.game_model.specs.Limits.{unit}
 use Rattle.almost_sure.specs.Values.{IsAlmostSure}
 use Rattle.plan_text.specs.declared.plan.Plan.{Plan}
 
--- the lower bound is 1 exactly at the almost-sure states, and so is the upper one there
+-- The lower bound is 1 exactly at the almost-sure states, and the upper bound is 1 there.
 pub record IsSureExactly (q : Query) (plan : Plan) : Type 0 where
   pub lower : (s : ℕ) → s < states q → (slice_index plan.lower.items s ≡ unit) ↔ IsAlmostSure q s
   pub upper : (s : ℕ) → s < states q → IsAlmostSure q s → slice_index plan.upper.items s ≡ unit
 
--- every k-step value of the state is 0
+-- Every k-step value of the state is 0.
 abbrev pub IsNever : Query → ℕ → Type 0
 IsNever q s = (k : ℕ) → numerator q k s ≡ 0
 
--- the upper bound is 0 exactly at the states of value 0, and so is the lower one there
+-- The upper bound is 0 exactly at the states of value 0, and the lower bound is 0 there.
 pub record IsZeroExactly (q : Query) (plan : Plan) : Type 0 where
   pub upper : (s : ℕ) → s < states q → (slice_index plan.upper.items s ≡ 0) ↔ IsNever q s
   pub lower : (s : ℕ) → s < states q → IsNever q s → slice_index plan.lower.items s ≡ 0

@@ -1,4 +1,4 @@
-//! The upper table, with the replies that hold the maximiser to it.
+//! This module has the upper table, with the replies that hold the maximiser to it.
 
 ghost use Rattle.std.specs.Prelude.{◌≤◌, [], slice_index, All, IfOk};
 ghost use Rattle.game_model.specs.Query.{states};
@@ -16,17 +16,17 @@ use game_outside::OutOfMemory;
 use inductive_check::{check_upper, replies};
 use std::alloc::Global;
 
-/// An upper table, and the replies to it.
+/// An upper table comes with the replies to it.
 #[derive(Drop)]
 pub struct Held {
-    /// The table.
+    /// This is the table.
     pub values: Vec<u64>,
-    /// The minimiser's choices.
+    /// These are the minimiser's choices.
     pub replies: Vec<Option<u32>>,
 }
 
-/// The upper table of a candidate, where that is inductive, and else the one of no entry, with the first replies to it.
-/// The only error is want of memory.
+/// Returns the upper table of a candidate if it is inductive, and else that of an empty candidate, with the first
+/// replies to it. The only error is that memory ran out.
 pub fn held_table(
     alloc: Global,
     question: &Question,
@@ -49,7 +49,7 @@ pub fn held_table(
     Ok(Held { values, replies })
 }
 
-// The table alone.
+// Returns only the table.
 fn inductive_table(
     alloc: Global,
     question: &Question,

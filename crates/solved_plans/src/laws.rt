@@ -1,4 +1,4 @@
-//! Why there is always a plan. No function here does anything: its contract is the law.
+//! The laws of this module say why there is always a plan. Each function does nothing: its contract is the law.
 
 ghost use Rattle.std.specs.Prelude.{ℕ, [], Bool, List, slice_index};
 ghost use Rattle.game_model.specs.Query.{Query, IsQuery};
@@ -11,14 +11,14 @@ ghost use Rattle.solved_plans.specs.Bounds.{sure_value, lower_bound, upper_bound
 
 use game_model::{Marks, Question};
 
-/// The almost-sure states have one plan with which the maximiser reaches a goal with probability 1: choices and ranks
-/// go together with probability 1 at each of them, and 0 elsewhere.
+/// With one plan the maximiser reaches a goal with probability 1 from every almost-sure state: the table with the unit
+/// at these states and 0 elsewhere can be ranked.
 pub fn almost_sure_states_have_a_plan()
     ensures { (q : Query) (sure : List Bool) (values : List ℕ) → IsQuery q → AreAlmostSure q sure
         → IsTable q (sure_value sure) values → CanBeRanked q values }
 {}
 
-/// The lower table of no entry can be ranked.
+/// The lower table of an empty candidate can be ranked.
 pub fn almost_sure_states_are_reached(
     question: &Question,
     sure: &Marks,
@@ -32,7 +32,7 @@ pub fn almost_sure_states_are_reached(
     question.known();
 }
 
-/// The upper table of no entry is inductive.
+/// The upper table of an empty candidate is inductive.
 pub fn bounds_of_no_entry_are_inductive(
     question: &Question,
     sure: &Marks,

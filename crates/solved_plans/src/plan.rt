@@ -1,4 +1,4 @@
-//! The plan that is handed out.
+//! This module makes the plan that is handed out.
 
 ghost use Rattle.std.specs.Prelude.{IfOk, slice_index};
 ghost use Rattle.game_model.specs.Query.{states};
@@ -20,25 +20,25 @@ use plan_text::Plan;
 use predecessors::Predecessors;
 use std::alloc::Global;
 
-/// The tables of a solver, in units, by state. A table that has another number of entries than there are states counts
-/// as missing.
+/// The tables of a solver give units for each state. A table that has another number of entries than there are states
+/// counts as empty.
 #[derive(Drop)]
 pub struct Candidates {
-    /// What the solver takes for lower bounds.
+    /// The solver takes these for lower bounds.
     pub lower: Vec<u64>,
-    /// What the solver takes for upper bounds.
+    /// The solver takes these for upper bounds.
     pub upper: Vec<u64>,
 }
 
-/// A plan of a question that passes the checks of an audit, whatever the candidates are, over the predecessors in its
-/// game, its almost-sure states and its zero set: its replies hold every strategy of the maximiser to the upper table,
-/// and its choices reach the lower table, less any 1/m, against every strategy of the minimiser. The lower bound is 1
-/// exactly at the almost-sure states, and the upper one 0 exactly in the zero set.
+/// Makes a plan of a question, over the predecessors in its game, its almost-sure states and its zero set. The plan
+/// passes the checks of an audit, whatever the candidates are: its replies hold every strategy of the maximiser to the
+/// upper table, and its choices reach the lower table, less any 1/m, against every strategy of the minimiser. The lower
+/// bound is 1 exactly at the almost-sure states, and the upper one 0 exactly in the zero set.
 ///
-/// Elsewhere the lower table is the candidate's, less than 1, where some choices and ranks vouch for the whole table,
-/// and else 0. The upper table is the candidate's, from one unit to 1, where the whole table is inductive, and else 1.
-/// The choices and ranks are those of `rank_certificate::rank_table`: none of either player stands where none is
-/// needed. The only error is want of memory.
+/// Elsewhere the lower table is the candidate's, less than 1, if some choices and ranks prove the whole table, and it
+/// is 0 otherwise. The upper table is the candidate's, from one unit to 1, if the whole table is inductive, and it is 1
+/// otherwise. The choices and ranks are those of `rank_certificate::rank_table`. A state that needs no choice or reply
+/// has none. The only error is that memory ran out.
 pub fn hand_out(
     alloc: Global,
     question: &Question,

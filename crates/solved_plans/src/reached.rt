@@ -1,4 +1,4 @@
-//! The lower table, with choices and ranks that vouch for it.
+//! This module has the lower table, with choices and ranks that prove it.
 
 ghost use Rattle.std.specs.Prelude.{◌≡◌, [], length, IfOk};
 ghost use Rattle.game_model.specs.Query.{states};
@@ -18,17 +18,17 @@ use predecessors::Predecessors;
 use rank_certificate::{RankPlan, rank_table_over};
 use std::alloc::Global;
 
-/// A lower table, and the plan that makes it ranked.
+/// A lower table comes with the plan that proves it.
 #[derive(Drop)]
 pub struct Reached {
-    /// The table.
+    /// This is the table.
     pub values: Vec<u64>,
-    /// Its plan.
+    /// This is its plan.
     pub plan: RankPlan,
 }
 
-/// The lower table of a candidate, where some choices and ranks vouch for it, and else the one of no entry. The only
-/// error is want of memory.
+/// Returns the lower table of a candidate if some choices and ranks prove it, and else that of an empty candidate. The
+/// only error is that memory ran out.
 pub fn reached_table(
     alloc: Global,
     question: &Question,
@@ -55,7 +55,8 @@ pub fn reached_table(
     weakest_table(alloc, question, predecessors, sure, zero)
 }
 
-// The lower table of no entry: choices and ranks vouch for it, since the almost-sure states have a plan.
+// Returns the lower table of an empty candidate. Choices and ranks prove it, because the almost-sure states have a
+// plan.
 fn weakest_table(
     alloc: Global,
     question: &Question,

@@ -1,4 +1,4 @@
-//! The tables that candidates give.
+//! This module makes the tables that candidates give.
 
 ghost use Rattle.std.specs.Prelude.{◌≡◌, ◌<◌, ◌≤◌, [], length, IfOk};
 ghost use Rattle.game_model.specs.Query.{states};
@@ -10,7 +10,7 @@ use game_model::{Marks, Question, UNIT};
 use game_outside::OutOfMemory;
 use std::alloc::Global;
 
-/// A candidate, or no entry where it has another number of them than there are states.
+/// Returns a candidate, or an empty one if it has another number of entries than there are states.
 pub fn counted_of<'a>(question: &Question, candidate: &'a [u64]) -> &'a [u64]
     ensures { result.now ≡ counted (states question.now) candidate.now }
 {
@@ -22,7 +22,7 @@ pub fn counted_of<'a>(question: &Question, candidate: &'a [u64]) -> &'a [u64]
     }
 }
 
-/// The lower table of a candidate.
+/// Returns the lower table of a candidate.
 pub fn lower_table(
     alloc: Global,
     question: &Question,
@@ -42,7 +42,7 @@ pub fn lower_table(
     Ok(table)
 }
 
-// The entry of a state.
+// Returns the entry of a state.
 fn lower_entry(sure: &Marks, zero: &Marks, candidate: &[u64], state: u32) -> u64
     requires sure { state < length sure.now }
     requires zero { state < length zero.now }
@@ -61,7 +61,7 @@ fn lower_entry(sure: &Marks, zero: &Marks, candidate: &[u64], state: u32) -> u64
     }
 }
 
-/// The upper table of a candidate.
+/// Returns the upper table of a candidate.
 pub fn upper_table(
     alloc: Global,
     question: &Question,
@@ -81,7 +81,7 @@ pub fn upper_table(
     Ok(table)
 }
 
-// The entry of a state.
+// Returns the entry of a state.
 fn upper_entry(sure: &Marks, zero: &Marks, candidate: &[u64], state: u32) -> u64
     requires sure { state < length sure.now }
     requires zero { state < length zero.now }

@@ -1,4 +1,4 @@
-//! The better tables of a plan and of a bracket.
+//! This module chooses the better tables of a plan and of a bracket.
 
 ghost use Rattle.std.specs.Prelude.{◌≡◌, length};
 ghost use Rattle.game_model.specs.Query.{states};
@@ -12,9 +12,9 @@ use plan_text::Plan;
 use solved_plans::Candidates;
 use std::alloc::Global;
 
-/// The lesser upper entry of each state; and of the lower tables the one whose sum is greater over the states of these
-/// that the bounds of the plan leave open, at a tie the plan's. The lower table of the bracket has the unit at the
-/// almost-sure states, as that of the plan.
+/// Returns the lesser upper entry of each state, and the lower table with the greater sum over the states of `starts`
+/// that the bounds of the plan leave open. At a tie this is the plan's. The lower table of the bracket has the unit at
+/// the almost-sure states, as that of the plan has.
 pub(crate) fn better_of(
     alloc: Global,
     question: &Question,
@@ -39,7 +39,7 @@ pub(crate) fn better_of(
     Ok(Candidates { lower, upper })
 }
 
-// The lesser of two tables, state by state.
+// Returns the lesser entry of two tables for each state.
 fn lesser(
     alloc: Global,
     question: &Question,
@@ -54,7 +54,7 @@ fn lesser(
     Ok(table)
 }
 
-// A table with the unit at these states.
+// Returns a table with the unit at these states.
 fn raised(
     alloc: Global,
     question: &Question,
@@ -76,7 +76,7 @@ fn raised(
     Ok(raised)
 }
 
-// The sum of a table over the states of these that the bounds of a plan leave open.
+// Returns the sum of a table over the states of `starts` that the bounds of a plan leave open.
 fn sum_of(bound: &Bound, starts: &[u32], plan: &Plan, table: &[u64]) -> u128 {
     let mut sum: u128 = 0;
     for state in starts {

@@ -1,4 +1,4 @@
-//! The plan of a question.
+//! This module finds the plan of a question.
 
 ghost use Rattle.std.specs.Prelude.{◌<◌, All, IfOk, slice_index};
 ghost use Rattle.game_model.specs.Query.{states};
@@ -24,13 +24,13 @@ use std::alloc::Global;
 use std::thread::Threads;
 use zero_sets::zero_set_over;
 
-/// A plan of a question, over the predecessors in its game, that passes the checks of an audit and is sound. The lower
-/// bound is 1 exactly at the almost-sure states, and the upper one 0 exactly in the zero set. Values to begin with, one
-/// for each state, are hints alone.
+/// Finds a plan of a question, over the predecessors in its game, that passes the checks of an audit and is sound. The
+/// lower bound is 1 exactly at the almost-sure states, and the upper one 0 exactly in the zero set. Values to begin
+/// with, one for each state, are only hints.
 ///
-/// A state of these starts is asked about where its bounds do not settle the bound. Where they are far apart at one
-/// such state, rounds are made by one worker, who passes the gate before each state, and each side takes the better
-/// table: the upper one state by state, the lower one by its sum over these states. The only error is want of memory.
+/// A state of `starts` is asked about if its bounds do not settle the bound. If they are far apart at one such state,
+/// one worker makes rounds and passes the gate before each state. Then each side takes the better table: the upper one
+/// state by state, the lower one by its sum over these states. The only error is that memory ran out.
 pub fn solve_question<R: Threads + Sync, G: Gate + Sync>(
     rt: &R,
     alloc: Global,
@@ -82,7 +82,8 @@ pub fn solve_question<R: Threads + Sync, G: Gate + Sync>(
         &plan,
         &found.bracket,
     )?;
-    // If the checks refused the better lower table, which rounds vouched for, the plan would fall behind the first one.
+    // The ranks of a run of rounds prove a better lower table. If the checks refused it all the same, the plan would be
+    // worse than the first one.
     drop(plan);
     drop(found);
     hand_out(alloc, question, predecessors, &sure, &zero, &better)

@@ -1,4 +1,4 @@
-//! Worked chains.
+//! These are worked chains.
 
 ghost use Rattle.std.specs.Prelude.{◌≡◌, IfOk, length, vec_len};
 ghost use Rattle.float_games.specs.Nodes.{nodes_of};
@@ -11,7 +11,8 @@ use std::alloc::Global;
 use std::num::nearest_usize_to_f64;
 use std::test::Fail;
 
-/// Gambler's ruin over so many states between ruin and the goal: each goes up and down with 1/2 each.
+/// Makes gambler's ruin over this many states between ruin and the goal. Each state goes up and down with probability
+/// 1/2 each.
 pub(crate) fn ruin(alloc: Global, states: u32) -> Result<FloatGame, Fail> {
     let mut draft = Draft::new(alloc, states as usize, states as usize, states as usize)?;
     for state in 0..states {
@@ -21,8 +22,8 @@ pub(crate) fn ruin(alloc: Global, states: u32) -> Result<FloatGame, Fail> {
     finished(draft)
 }
 
-/// Adds a state of a gambler: it goes down and up to these nodes, but the first state down to ruin, and the last one up
-/// to the goal.
+/// Adds a state of a gambler, which goes down and up to these nodes. The first state goes down to ruin, and the last
+/// state goes up to the goal.
 pub(crate) fn add_gambler(
     draft: &mut Draft,
     state: u32,
@@ -68,7 +69,7 @@ fn an_elimination_gives_the_chances_of_a_gambler(rt: HostRuntime) -> Result<(), 
         let mut values = chain.gives(rt.alloc(), 0.0)?;
         factors.solve(&mut values);
         near_shares(&values, 64.0)?;
-        // The moves of state 1 of n are n: with two sums no other elimination is needed.
+        // The number of moves from state 1 of n is n, so two sums need no second elimination.
         let mut moves = vec![in rt.alloc(); 1.0; chain.nodes()]?;
         factors.solve(&mut moves);
         let first = moves.first().copied().unwrap_or(0.0);
@@ -83,7 +84,7 @@ fn steps_in_a_krylov_space_come_to_the_same(rt: HostRuntime) -> Result<(), Fail>
     check_steps(rt.alloc(), &game)
 }
 
-/// Steps come to a gambler's chances, and once more to the same values.
+/// Steps come to a gambler's chances, and a second time to the same values.
 fn check_steps(alloc: Global, game: &FloatGame) -> Result<(), Fail> {
     let policy = game.first_policy(alloc)?;
     let chain = Chain::of_policy(game, &policy);
@@ -97,7 +98,7 @@ fn check_steps(alloc: Global, game: &FloatGame) -> Result<(), Fail> {
     )
 }
 
-/// The values that steps from 0 come to, where a pass changes little in the end.
+/// Returns the values that steps from 0 come to, and checks that a pass changes little in the end.
 fn approached(alloc: Global, chain: &Chain) -> Result<Vec<f64>, Fail> {
     let sums = chain.gives(alloc, 0.0)?;
     let mut values = vec![in alloc; 0.0; chain.nodes()]?;
@@ -112,7 +113,7 @@ fn what_never_leaves_has_the_value_zero(rt: HostRuntime) -> Result<(), Fail> {
     check_endless(rt.alloc(), &game)
 }
 
-/// An elimination gives nodes that never leave the value 0.
+/// An elimination gives the value 0 to nodes that never leave.
 fn check_endless(alloc: Global, game: &FloatGame) -> Result<(), Fail> {
     let policy = game.first_policy(alloc)?;
     let chain = Chain::of_policy(game, &policy);
@@ -122,7 +123,7 @@ fn check_endless(alloc: Global, game: &FloatGame) -> Result<(), Fail> {
     holds("both are 0", values.iter().all(|value| *value == 0.0))
 }
 
-/// Two nodes that go to each other.
+/// Two nodes go to each other.
 fn endless(alloc: Global) -> Result<FloatGame, Fail> {
     let mut draft = Draft::new(alloc, 2, 2, 2)?;
     for node in [1, 0] {

@@ -1,4 +1,4 @@
-//! Worked local games.
+//! These are worked local games.
 
 ghost use Rattle.std.specs.Prelude.{◌≡◌, IfOk, length, vec_len};
 ghost use Rattle.float_games.specs.Nodes.{nodes_of};
@@ -30,13 +30,13 @@ fn check_ruin(alloc: Global, game: &FloatGame) -> Result<(), Fail> {
     near_shares(&values, 2.0)
 }
 
-/// Gambler's ruin over 701 states, mixed so that the band of the chain is too wide for an elimination: node `i` is
-/// state `211 i` of them.
+/// Makes gambler's ruin over 701 states, mixed so that the band of the chain is too wide for an elimination. Node `i`
+/// is state `211 i` of them, modulo 701.
 fn mixed_ruin(alloc: Global) -> Result<FloatGame, Fail> {
     let mut draft = Draft::new(alloc, 701, 701, 1402)?;
     for node in 0..701u32 {
         let state = node * 211 % 701;
-        // 402 is the inverse of 211, and 700 stands for -1.
+        // 402 is the inverse of 211, and 700 is -1, modulo 701.
         let (down, up) = ((state + 700) * 402 % 701, (state + 1) * 402 % 701);
         add_gambler(&mut draft, state, 700, down, up)?;
     }
@@ -56,7 +56,7 @@ fn check_mixed_ruin(alloc: Global, game: &FloatGame) -> Result<(), Fail> {
     near_shares(&by_state(alloc, &values)?, 1_000_000.0)
 }
 
-/// The values that a game and a policy are brought to, from 0 on.
+/// Returns the values that a game and a policy are brought to, from 0 on.
 pub(crate) fn solved(alloc: Global, game: &FloatGame, policy: &mut [u32]) -> Result<Vec<f64>, Fail>
     requires { length policy.old ≡ nodes_of game.now }
     ensures { IfOk result (λ values. vec_len values ≡ nodes_of game.now) }
@@ -66,7 +66,7 @@ pub(crate) fn solved(alloc: Global, game: &FloatGame, policy: &mut [u32]) -> Res
     Ok(values)
 }
 
-/// The values of the mixed nodes in the order of their states.
+/// Returns the values of the mixed nodes in the order of their states.
 fn by_state(alloc: Global, values: &[f64]) -> Result<Vec<f64>, Fail> {
     let mut sorted = vec![in alloc; 0.0; values.len()]?;
     for (node, value) in values.iter().enumerate() {
@@ -77,7 +77,8 @@ fn by_state(alloc: Global, values: &[f64]) -> Result<Vec<f64>, Fail> {
     Ok(sorted)
 }
 
-/// Node 0 may go to 1, or leave with 0.65 of the unit; node 1, of this side, leaves with 0.5 or with 0.2, or goes back.
+/// Node 0 may go to node 1, or leave with 0.65 of the unit. Node 1, of this side, leaves with 0.2, or by its other
+/// choice goes back or leaves with 0.5, each with probability one half.
 fn two_nodes(alloc: Global, maximises: bool) -> Result<FloatGame, Fail> {
     let mut draft = Draft::new(alloc, 2, 4, 3)?;
     let out = [Way::Out(13.0, 1.0), Way::Out(7.0, 0.0)];
@@ -89,12 +90,12 @@ fn two_nodes(alloc: Global, maximises: bool) -> Result<FloatGame, Fail> {
 
 #[test]
 fn each_side_takes_its_best_choice(rt: HostRuntime) -> Result<(), Fail> {
-    // The worse choice of node 1 first.
+    // The worse choice of node 1 comes first.
     check_two_nodes(rt.alloc(), true, &[1, 2], &[1, 3], &[0.65, 0.575])?;
     check_two_nodes(rt.alloc(), false, &[1, 3], &[1, 2], &[0.65, 0.2])
 }
 
-/// From this policy the two nodes come to that one, and to these shares of the unit.
+/// From the policy `start` the two nodes come to the policy `wanted`, and to these shares of the unit.
 fn check_two_nodes(
     alloc: Global,
     maximises: bool,
@@ -112,7 +113,7 @@ fn check_two_nodes(
     are_near(&values, shares)
 }
 
-/// The values are as many as these shares of the unit, and each is off by less than one unit.
+/// There are as many values as shares of the unit, and each value is off by less than one unit.
 fn are_near(values: &[f64], shares: &[f64]) -> Result<(), Fail> {
     same("as many", values.len(), shares.len())?;
     for (value, wanted) in values.iter().zip(shares) {
@@ -122,7 +123,7 @@ fn are_near(values: &[f64], shares: &[f64]) -> Result<(), Fail> {
     Ok(())
 }
 
-/// Node 0 goes to 1, from where half goes back, and half leaves, with the unit or with nothing.
+/// Node 0 goes to node 1. From there half goes back, and half leaves, with the unit or with nothing.
 fn cycle(alloc: Global) -> Result<FloatGame, Fail> {
     let mut draft = Draft::new(alloc, 2, 2, 2)?;
     add_node(&mut draft, false, &[&[Way::To(1, 1.0)]])?;
@@ -137,7 +138,7 @@ fn a_cycle_with_an_exit(rt: HostRuntime) -> Result<(), Fail> {
     check_cycle(rt.alloc(), &game)
 }
 
-/// From both nodes of the cycle half reaches the unit, and from the first it takes four moves.
+/// From both nodes of the cycle the value is half of the unit, and from the first node four moves are expected.
 fn check_cycle(alloc: Global, game: &FloatGame) -> Result<(), Fail> {
     let mut policy = game.first_policy(alloc)?;
     let values = solved(alloc, game, &mut policy)?;
@@ -160,7 +161,7 @@ fn nonsense_ends(rt: HostRuntime) -> Result<(), Fail> {
     Ok(())
 }
 
-/// From a policy that is none, and from this value, by this cost a move, there is an end.
+/// The solver ends even if the policy is none, and if the values and the cost of a move are this number.
 fn check_nonsense(alloc: Global, game: &FloatGame, nonsense: f64) -> Result<(), Fail> {
     let mut policy = vec![in alloc; 4_000_000_000u32; game.nodes()]?;
     let mut values = vec![in alloc; nonsense; game.nodes()]?;

@@ -1,7 +1,7 @@
-//! Worked examples of the solver's kernels: components in the order of play, local games and chains over floats,
-//! eliminations, steps in a Krylov space, values and policies, and tables of whole units.
+//! These are worked examples of the solver's kernels: components in the order of play, local games and chains over
+//! floats, eliminations, steps in a Krylov space, values and policies, and tables of whole units.
 //!
-//! They stand over these crates, since a test in a crate proves that crate once more.
+//! The examples are in a crate above these crates, because a test in a crate proves that crate once more.
 #![tactic(auto)]
 
 #[cfg(test)]

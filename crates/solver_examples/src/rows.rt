@@ -1,18 +1,18 @@
-//! Local games that are made of rows: nodes, their choices, and where these lead.
+//! These local games are made of rows: nodes, their choices, and where these lead.
 
 use float_games::{Draft, FloatGame, UNIT};
 use std::test::Fail;
 
-/// Where a choice leads.
+/// A choice leads this way.
 #[derive(Clone, Copy)]
 pub(crate) enum Way {
-    /// To this node, with this weight.
+    /// It leads to this node, with this weight.
     To(u32, f64),
-    /// Out of the game, with this weight, where it gives this share of the unit.
+    /// It leads out of the game, with this weight, and gives this share of the unit.
     Out(f64, f64),
 }
 
-/// The game of a draft.
+/// Returns the game of a draft.
 pub(crate) fn finished(draft: Draft) -> Result<FloatGame, Fail> {
     Ok(draft.finish().ok_or("no game")?)
 }
@@ -35,7 +35,7 @@ fn add_choice(draft: &mut Draft, ways: &[Way]) -> Result<(), Fail> {
     Ok(())
 }
 
-/// Adds one way to the choice under way.
+/// Adds one way to the choice that is being made.
 fn add_way(draft: &mut Draft, way: Way) -> Result<(), Fail> {
     match way {
         Way::To(node, weight) => draft.add_edge(node, weight)?,

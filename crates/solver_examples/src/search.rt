@@ -1,4 +1,4 @@
-//! Worked components.
+//! These are worked components.
 
 ghost use Rattle.std.specs.Prelude.{◌≡◌, IfOk, length};
 ghost use Rattle.components.specs.Division.{states_of};
@@ -11,7 +11,7 @@ use sample_games::{coin_loop, game_of, question_of};
 use std::alloc::Global;
 use std::test::Fail;
 
-/// Two states that come to each other, from where a third one is reached; and a fourth that leads to these.
+/// Two states lead to each other and to a third state, and a fourth state leads to these.
 fn way_to_a_cycle(alloc: Global) -> Result<Game, Fail>
     ensures { IfOk result (λ game. length game ≡ 4) }
 {
@@ -36,7 +36,7 @@ fn members_stand_in_the_order_that_is_handed_in(rt: HostRuntime) -> Result<(), F
     check_way_to_a_cycle(rt.alloc(), &[2, 9, 2], &[3, 2, 1, 0])
 }
 
-/// In this order the members of the components of the way to a cycle, one after another, are these.
+/// With this order of states, the components of the way to a cycle have these members, one component after another.
 fn check_way_to_a_cycle(alloc: Global, order: &[u32], members: &[u32]) -> Result<(), Fail> {
     let game = way_to_a_cycle(alloc)?;
     check(&game, alloc, order, &[2, 1, 1, 0], members)
@@ -48,7 +48,7 @@ fn states_that_stay_are_components(rt: HostRuntime) -> Result<(), Fail> {
     check(&game, rt.alloc(), &[], &[2, 0, 1], &[1, 2, 0])
 }
 
-/// Over all choices each state has this component, and the members of one after another are these.
+/// Over all choices each state has this component, and the components have these members, one component after another.
 fn check(
     game: &Game,
     alloc: Global,
@@ -78,7 +78,7 @@ fn have_numbers(
     same("components", numbers.as_slice(), component)
 }
 
-/// The members of one component after another are these.
+/// The components have these members, one component after another.
 fn have_members(alloc: Global, found: &Components, members: &[u32]) -> Result<(), Fail> {
     let mut all = Vec::new(alloc);
     for number in 0..found.count() {
@@ -92,7 +92,7 @@ fn choices_that_are_not_kept_lead_nowhere(rt: HostRuntime) -> Result<(), Fail> {
     let alloc = rt.alloc();
     let game = way_to_a_cycle(alloc)?;
     let question = question_of(alloc, &game, Side::Max, 3)?;
-    // All but the choice from 1 to 2.
+    // All choices are kept except the one from state 1 to state 2.
     let kept = ChoiceFlags::of_game(
         alloc,
         &game,

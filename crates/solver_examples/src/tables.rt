@@ -1,4 +1,4 @@
-//! Worked tables of whole units.
+//! These are worked tables of whole units.
 
 ghost use Rattle.std.specs.Prelude.{◌≡◌, ◌+◌, ◌<◌, IfOk, length, vec_len};
 ghost use Rattle.game_model.specs.Game.{choices_of};
@@ -20,7 +20,7 @@ use std::num::nearest_u64_to_f64;
 use std::test::Fail;
 use table_rounding::{Setting, UnitTable, round_component, single_entry};
 
-/// A gambler with 1 to 3 of 4 coins, who bets one at a time; state 0 is ruin and 4 the goal.
+/// A gambler with 1 to 3 of 4 coins bets one coin at a time. State 0 is ruin, and state 4 is the goal.
 fn gambler(alloc: Global) -> Result<Game, Fail> {
     game_of(
         alloc,
@@ -34,7 +34,7 @@ fn gambler(alloc: Global) -> Result<Game, Fail> {
     )
 }
 
-/// State 0 goes round by 1, or leaves to the goal 2 by a third and to 3 by two thirds.
+/// State 0 goes round by state 1, or leaves to the goal, state 2, with one third and to state 3 with two thirds.
 fn thirds(alloc: Global) -> Result<Game, Fail> {
     game_of(
         alloc,
@@ -66,7 +66,7 @@ fn thirds_are_rounded_to_both_sides(rt: HostRuntime) -> Result<(), Fail> {
     check_thirds(rt.alloc(), &question)
 }
 
-/// Both tables of a question are near each other, and the upper one is the same once more.
+/// Both tables of a question are near each other, and the upper one is the same when it is made once more.
 fn check_thirds(alloc: Global, question: &Question<'_>) -> Result<(), Fail> {
     let lower = table_of(alloc, question, Bound::Lower)?;
     let upper = table_of(alloc, question, Bound::Upper)?;
@@ -86,7 +86,7 @@ fn are_near(lower: &[u64], upper: &[u64]) -> Result<(), Fail> {
     Ok(())
 }
 
-/// The table of a question, component after component.
+/// Makes the table of a question, component after component.
 fn table_of(alloc: Global, question: &Question<'_>, bound: Bound) -> Result<UnitTable, Fail>
     ensures { IfOk result (λ table. length table ≡ states question.now) }
 {
@@ -146,7 +146,7 @@ fn fill(
     round(alloc, &setting, table)
 }
 
-/// Fills in the entry of a component of one state, from the table alone.
+/// Fills in the entry of a component of one state, from the table only.
 fn fill_single(question: &Question<'_>, state: u32, bound: Bound, table: &mut UnitTable)
     requires state { state < states question.now }
     requires many { length table.old ≡ states question.now }
@@ -163,7 +163,7 @@ fn fill_single(question: &Question<'_>, state: u32, bound: Bound, table: &mut Un
     );
 }
 
-/// The numbers below this one.
+/// Lists the numbers below this one.
 fn numbers(alloc: Global, count: u32) -> Result<Vec<u32>, Fail> {
     let mut list = Vec::new(alloc);
     for number in 0..count {
@@ -172,7 +172,7 @@ fn numbers(alloc: Global, count: u32) -> Result<Vec<u32>, Fail> {
     Ok(list)
 }
 
-/// Fills in the entries of a component, by the values of its local game.
+/// Fills in the entries of a component by the values of its local game.
 fn round(alloc: Global, setting: &Setting<'_, '_>, table: &mut UnitTable) -> Result<(), Fail>
     requires { length table.old ≡ states setting.now.question.now }
     ensures { length table.new ≡ length table.old }
@@ -188,7 +188,7 @@ fn round(alloc: Global, setting: &Setting<'_, '_>, table: &mut UnitTable) -> Res
     Ok(())
 }
 
-/// Plans the choices of a policy at the members of a component, a node for each.
+/// Plans the choices of a policy at the members of a component, which has a node for each member.
 fn plan(game: &FloatGame, members: &[u32], policy: &[u32], planned: &mut [u32]) {
     for (state, choice) in members.iter().zip(policy) {
         if let Some(place) = planned.get_mut(*state as usize) {
@@ -197,7 +197,7 @@ fn plan(game: &FloatGame, members: &[u32], policy: &[u32], planned: &mut [u32]) 
     }
 }
 
-/// The local game of a component, a node for each member.
+/// Makes the local game of a component, with a node for each member.
 fn local_game(
     alloc: Global,
     question: &Question<'_>,
@@ -246,7 +246,7 @@ fn add_choice(
     Ok(())
 }
 
-/// Adds an edge: to the node of a state, or out of the component with what the table says.
+/// Adds an edge to the node of a state, or out of the component with what the table says.
 fn add_edge(
     components: &Components,
     component: u32,
@@ -266,7 +266,7 @@ fn add_edge(
     Ok(())
 }
 
-/// Games of up to 40 states, most of whose choices have several successors.
+/// These games have up to 40 states, and most of their choices have several successors.
 const GAMES: Shape = Shape {
     least_states: 3,
     most_states: 40,
@@ -292,22 +292,22 @@ fn tables_of_random_games_hold(rt: HostRuntime) -> Result<(), Fail> {
     holds(format_args!("few are wide: {wide}"), wide < 10)
 }
 
-/// The bounds of the first state's chance, where one side chooses everywhere. Gives whether they are far apart
-/// somewhere.
+/// Bounds the probability of reaching the first state if one side chooses everywhere. It returns 1 if the bounds are
+/// far apart somewhere, else 0.
 fn check_game(alloc: Global, game: &Game, side: Side) -> Result<u32, Fail> {
     let question = question_of(alloc, game, side, 0)?;
     let widest = check_tables(alloc, &question)?;
     Ok(if widest > 1_000 { 1 } else { 0 })
 }
 
-/// The lower table of a question holds, and so does the upper one. Gives how far they are apart at most.
+/// The lower table of a question holds, and so does the upper one. The result is how far they are apart at most.
 fn check_tables(alloc: Global, question: &Question<'_>) -> Result<u64, Fail> {
     let lower = table_of(alloc, question, Bound::Lower)?;
     let upper = table_of(alloc, question, Bound::Upper)?;
     check_states(question, &lower, &upper)
 }
 
-/// Both tables hold. Gives how far they are apart at most.
+/// Both tables hold. The result is how far they are apart at most.
 fn check_states(question: &Question<'_>, lower: &UnitTable, upper: &UnitTable) -> Result<u64, Fail>
     requires lower { length lower.now ≡ states question.now }
     requires upper { length upper.now ≡ states question.now }
@@ -319,7 +319,7 @@ fn check_states(question: &Question<'_>, lower: &UnitTable, upper: &UnitTable) -
     Ok(widest)
 }
 
-/// Both tables hold at a state. Gives how far they are apart there.
+/// Both tables hold at a state. The result is how far they are apart there.
 fn check_state(
     question: &Question<'_>,
     lower: &UnitTable,

@@ -1,6 +1,6 @@
-//! What may happen to a world, and why it may not.
+//! This module says what may happen to a world, and why it may not.
 
-/// A step of one view, or of two. Views are numbered from 0 as they are made.
+/// An event is a step of one view, or of two. Views are numbered from 0 as they are made.
 #[derive(Clone, Copy, Debug, PartialEq, Eq)]
 pub enum Event {
     /// The view sees the word of the state.
@@ -20,7 +20,7 @@ pub enum Event {
         view: u32,
         state: u32,
     },
-    /// A new view has seen what the view has.
+    /// A new view has seen what this view has.
     Split {
         view: u32,
     },
@@ -31,10 +31,10 @@ pub enum Event {
     },
 }
 
-/// Why an event is refused: the first reason, in this order.
+/// This is why an event is refused. Unless memory ran out, it is the first reason that holds, in this order.
 #[derive(Clone, Copy, Debug, PartialEq, Eq)]
 pub enum Refused {
-    /// Memory was wanting.
+    /// Memory ran out.
     OutOfMemory,
     /// A named view is not live.
     NoView,

@@ -1,4 +1,4 @@
-//! Laws of events. Each function does nothing: its contract is the law.
+//! This module has the laws of events. Each function does nothing: its contract is the law.
 
 ghost use Rattle.std.specs.Prelude.{◌≡◌, ℕ, ◌+◌, List, None, ◌↔◌};
 ghost use Rattle.std.specs.List.{sum_by};
@@ -27,8 +27,8 @@ pub fn all_worlds_meet_the_invariant()
         → Leads (opening_configuration q) events w → IsWorld w }
 {}
 
-/// After every list of lawful events from the opening configuration the words are within as many down steps as
-/// exchanges were won: one event adds as many as it wins.
+/// After every list of lawful events from the opening configuration the words are nowhere above as many down steps as
+/// exchanges were won: one event adds as many steps as it wins.
 pub fn words_are_within_the_won_exchanges()
     ensures one { (w : Configuration) (event : Event) (r : ℕ) → IsWorld w → Lawful w event
         → IsBelow w.question (value_at w.words) (down_steps w.question r)
@@ -37,7 +37,7 @@ pub fn words_are_within_the_won_exchanges()
         → Leads (opening_configuration q) events w → IsBelow q (value_at w.words) (down_steps q (sum_by wins events)) }
 {}
 
-/// An event is lawful exactly where there is no reason against it.
+/// An event is lawful exactly if there is no reason against it.
 pub fn lawful_where_no_reason()
     ensures { (w : Configuration) (event : Event) → IsWorld w → Lawful w event ↔ (first_of (reasons w event) ≡ None) }
 {}

@@ -1,4 +1,4 @@
-//! The words that a race begins with.
+//! This module makes the words that a race begins with.
 
 ghost use Rattle.std.specs.Prelude.{◌≡◌, ◌<◌, IfOk};
 ghost use Rattle.game_model.specs.Query.{is_goal, states};
@@ -9,7 +9,7 @@ use game_model::{Question, UNIT};
 use game_outside::OutOfMemory;
 use std::alloc::Global;
 
-/// The words of the opening table: goals have the unit and other states 0, each with choice 0.
+/// Makes the words of the opening table: goals have the unit and other states 0, each with choice 0.
 pub fn opening_words(alloc: Global, question: &Question<'_>) -> Result<Vec<u64>, OutOfMemory>
     ensures { IfOk result (λ words. words.items ≡ opening_words question.now) }
 {
@@ -23,7 +23,7 @@ pub fn opening_words(alloc: Global, question: &Question<'_>) -> Result<Vec<u64>,
     Ok(words)
 }
 
-// The word of a state in the opening table.
+// Makes the word of a state in the opening table.
 fn opening_word(question: &Question<'_>, state: u32) -> u64
     requires { state < states question.now }
     ensures { result ≡ opening_word (is_goal question.now state) }

@@ -1,4 +1,4 @@
-//! What one view has seen.
+//! This module keeps what one view has seen.
 
 ghost use Rattle.std.specs.Prelude.{◌≡◌, ℕ, ◌<◌, List, [], length, Some, None, IsSome, is_some, slice_set, unwrap_or, IfOk, map};
 ghost use Rattle.step_core.specs.Word.{values_of, greater_words};
@@ -8,7 +8,7 @@ use game_outside::OutOfMemory;
 use std::alloc::Global;
 use std::marker::Model;
 
-/// The words that a view has seen, one for each state; none where it is spent.
+/// A view has seen one word for each state. A spent view has none.
 #[derive(Drop)]
 pub struct View {
     live: bool,
@@ -24,7 +24,7 @@ impl Model for View {
 }
 
 impl View {
-    /// A live view that has seen these words.
+    /// Makes a live view that has seen these words.
     pub fn of_words(alloc: Global, words: &[u64]) -> Result<View, OutOfMemory>
         ensures { IfOk result (λ v. v ≡ Some words.now) }
     {
@@ -34,7 +34,7 @@ impl View {
         }
     }
 
-    /// A spent view.
+    /// Makes a spent view.
     pub fn spent(alloc: Global) -> View
         ensures { result ≡ None }
     {
@@ -44,14 +44,14 @@ impl View {
         }
     }
 
-    /// Whether the view is live.
+    /// Returns whether the view is live.
     pub fn is_live(&self) -> bool
         ensures { result ≡ is_some self.now }
     {
         self.live
     }
 
-    /// The words that a live view has seen.
+    /// Returns the words that a live view has seen.
     pub fn words(&self) -> &[u64]
         requires { IsSome self.now }
         ensures { result.now ≡ unwrap_or self.now [] }
@@ -59,7 +59,7 @@ impl View {
         self.words.as_slice()
     }
 
-    /// A live view sees the word of a state.
+    /// Lets a live view see the word of a state.
     pub fn see(&mut self, state: usize, word: u64)
         requires live { IsSome self.old }
         requires state { state < length (unwrap_or self.old []) }
@@ -68,7 +68,7 @@ impl View {
         self.words[state] = word;
     }
 
-    /// The values that a live view has seen.
+    /// Returns the values that a live view has seen.
     pub fn values(&self, alloc: Global) -> Result<Vec<u64>, OutOfMemory>
         requires { IsSome self.now }
         ensures { IfOk result (λ v. v.items ≡ values_of (unwrap_or self.now [])) }
@@ -79,7 +79,7 @@ impl View {
         }
     }
 
-    /// A live view takes in what another one has seen.
+    /// Lets a live view take in what another one has seen.
     pub fn take_in(&mut self, other: &View)
         requires live { IsSome self.old }
         requires other { IsSome other.now }
@@ -90,7 +90,7 @@ impl View {
     }
 }
 
-// Takes state by state the word of greater value.
+// Takes for each state the word of greater value.
 fn take_greater(words: &mut [u64], others: &[u64])
     requires { length others.now ≡ length words.old }
     ensures { words.new ≡ greater_words words.old others.now }

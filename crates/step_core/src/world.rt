@@ -1,4 +1,4 @@
-//! Worlds, and what each event does to one.
+//! This module keeps worlds, and says what each event does to one.
 
 ghost use Rattle.std.specs.Prelude.{◌≡◌, ◌≢◌, ◌<◌, ◌⊎◌, List, Bool, false, Some, None, is_some, slice_index, slice_set, option_map, IfOk, IfErr, OnOk, OnErr};
 ghost use Rattle.game_model.specs.Query.{states};
@@ -15,7 +15,7 @@ use std::alloc::Global;
 use std::marker::Model;
 use std::mem;
 
-/// A question, a word for each state, and the views of those who change the words. Contracts see it as a
+/// A world has a question, a word for each state, and the views of those who change the words. Contracts see it as a
 /// configuration of a transition system.
 #[derive(Drop)]
 pub struct World<'q> {
@@ -43,7 +43,7 @@ impl<'q> World<'q> {
     ghost use Rattle.step_core.specs.Configuration.{Configuration, IsWorld, view_of, seen_by, opening_configuration};
     ghost use Rattle.step_core.specs.Events.{IsLive, Raises, Lawful, looked, after, unless_there, unless_raised, is_bad_choice, given_by, reasons, first_of, Answers, HasRoom};
 
-    /// The opening world: the words have the unit at goals and 0 elsewhere, and view 0 has seen them.
+    /// Makes the opening world: the words have the unit at goals and 0 elsewhere, and view 0 has seen them.
     pub fn start(alloc: Global, question: &'q Question<'q>) -> Result<World<'q>, OutOfMemory>
         ensures { IfOk result (λ w. w ≡ opening_configuration question.now) }
     {
@@ -62,8 +62,8 @@ impl<'q> World<'q> {
         })
     }
 
-    /// Takes an event, or refuses it and stays as it was. It is refused exactly where it is not lawful,
-    /// for the first reason that holds, or for want of memory.
+    /// Takes an event, or refuses it and stays as it was. An event that is not lawful is refused for the first reason
+    /// that holds. Any event may be refused because memory ran out.
     pub fn apply(&mut self, event: Event) -> Result<(), Refused>
         requires { HasRoom self.old event }
         ensures answer { Answers result (first_of (reasons self.old event)) }
@@ -87,7 +87,7 @@ impl<'q> World<'q> {
         }
     }
 
-    /// The word of a state.
+    /// Returns the word of a state.
     pub fn word(&self, state: u32) -> u64
         requires { state < states self.now.question }
         ensures { result ≡ slice_index self.now.words state }
@@ -95,7 +95,7 @@ impl<'q> World<'q> {
         self.words[state as usize]
     }
 
-    /// The word that a view has seen at a state; none where the view is not live.
+    /// Returns the word that a view has seen at a state, or none if the view is not live.
     pub fn seen(&self, view: u32, state: u32) -> Option<u64>
         requires { state < states self.now.question }
         ensures { result ≡ option_map (λ seen. slice_index seen state) (view_of self.now view) }
@@ -113,7 +113,7 @@ impl<'q> World<'q> {
         let _ = &self.words;
     }
 
-    // Whether a view is live.
+    // Returns whether a view is live.
     fn is_live(&self, view: u32) -> bool
         ensures { result ≡ is_some (view_of self.now view) }
     {
@@ -123,7 +123,7 @@ impl<'q> World<'q> {
         }
     }
 
-    // Whether the view is live and there is such a state.
+    // Checks that the view is live and that there is such a state.
     fn named(&self, view: u32, state: u32) -> Result<(), Refused>
         ensures ok { OnOk result (IsLive self.now view × (state < states self.now.question)) }
         ensures err { IfErr result (λ refused. (others : List (Bool × Refused))
@@ -172,7 +172,7 @@ impl<'q> World<'q> {
         Ok(())
     }
 
-    // Whether the choice of a word is out of range at a state.
+    // Returns whether the choice of a word is out of range at a state.
     fn is_bad_choice(&self, state: u32, choice: u32) -> bool
         requires { state < states self.now.question }
         ensures { result ≡ is_bad_choice self.now.question state choice }
@@ -183,7 +183,7 @@ impl<'q> World<'q> {
         }
     }
 
-    // Whether the word of a state may be exchanged so, whoever does it.
+    // Checks that the word of a state may be exchanged in this way, whichever view does it.
     fn raises(&self, state: u32, from: u64, to: u64) -> Result<(), Refused>
         requires { state < states self.now.question }
         ensures choice { OnOk result (is_bad_choice self.now.question state (choice_in to) ≡ false) }
@@ -207,7 +207,8 @@ impl<'q> World<'q> {
         Ok(())
     }
 
-    // What a choice gives over what a view has seen, or the least that a choice of the minimiser gives.
+    // Returns what a choice gives over what a view has seen. At a state of the minimiser it is the least that any
+    // choice gives.
     fn given(&self, view: u32, state: u32, choice: u32) -> Result<u64, OutOfMemory>
         requires live { IsLive self.now view }
         requires state { state < states self.now.question }

@@ -1,6 +1,6 @@
-//! The program: the words, the files and the standard output of the system, handed to `run`.
+//! This is the program: it hands the words, the files and the standard output of the system to `run`.
 //!
-//! Where the words are no command, and where a run writes nothing, or not all of it, one line on standard error says
+//! If the words are no command, or if a run writes nothing or not all of its output, one line on standard error says
 //! why. Nothing else ever goes there.
 #![tactic(auto)]
 
@@ -12,7 +12,7 @@ use std::{env, io};
 use stogame_app::{Status, run};
 use system_files::{Failure, FileShelf, OneLine, OutSink};
 
-/// The status where the system hands over no words.
+/// The program ends with this status if the system hands over no words.
 const NO_WORDS: u8 = 9;
 
 fn main(rt: HostRuntime) -> ExitCode {
@@ -40,7 +40,7 @@ fn main(rt: HostRuntime) -> ExitCode {
     ExitCode::from(status.number())
 }
 
-// Ends a run whose words are not there.
+// Ends a run whose words the system did not hand over.
 fn end_without_words(rt: &impl Eprint, error: &io::Error) -> u8 {
     if error.kind() == io::ErrorKind::OutOfMemory {
         return end_out_of_memory(rt);
@@ -59,7 +59,7 @@ fn say_out_of_memory(rt: &impl Eprint) {
     let _ = eprintln!(rt; "stogame: out of memory");
 }
 
-// What is wrong with words that are no command, and which commands there are.
+// Says what is wrong with words that are no command, and which commands there are.
 fn say_refused(rt: &impl Eprint, refused: &Option<String>) {
     if let Some(message) = refused {
         let line = OneLine(message.as_str());
@@ -67,7 +67,7 @@ fn say_refused(rt: &impl Eprint, refused: &Option<String>) {
     }
 }
 
-// Which file was not read, and why.
+// Says which file was not read, and why.
 fn say_unread(rt: &impl Eprint, shelf: &FileShelf<impl Files>) {
     let name = OneLine(shelf.name().unwrap_or("a file"));
     let _ = match shelf.failure() {
@@ -76,7 +76,7 @@ fn say_unread(rt: &impl Eprint, shelf: &FileShelf<impl Files>) {
     };
 }
 
-// Why the output was not written.
+// Says why the output was not written.
 fn say_unwritten(rt: &impl Eprint, failure: Option<Failure>) {
     let _ = match failure {
         Some(reason) => eprintln!(rt; "stogame: cannot write the output: {reason}"),

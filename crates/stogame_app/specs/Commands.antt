@@ -1,5 +1,5 @@
--- What a command asks of texts: the limits of its numbers, its first refusal, that a text is not held, or that all is
--- accepted.
+-- These definitions say what a command asks of its texts: the limits of its numbers, its first refusal, that a text is
+-- not held, or that all is accepted.
 use Rattle.std.specs.Prelude.{◌≡◌, ◌⊎◌, ◌||◌, Option, Some, None, is_some, if◌then◌else◌}
 use Rattle.game_outside.specs.Outside.{Holding}
 use Rattle.formula_sets.specs.Posing.{Posing}
@@ -18,7 +18,7 @@ use Rattle.asked_files.specs.Asks.{GivenTextWith, Asks}
 use Rattle.asked_files.specs.Questions.{PosesIt, RefusesQuestion, RefusesCertificate, GivesValues, RefusesValues}
 use Rattle.asked_files.specs.Questions.{LacksValues}
 
--- the numbers of a command have their limits
+-- The numbers of the command are within their limits.
 abbrev pub IsInRange : Command → Type 0
 IsInRange (OfCheck check) = AreInRange check
 IsInRange (OfAudit audit) = Unit {0}
@@ -26,7 +26,7 @@ IsInRange (OfSolve solve) = Unit {0}
 IsInRange (OfMake make) = IsMakeInRange make
 IsInRange (OfSure asked) = Unit {0}
 
--- a command that reads files
+-- The command reads files.
 abbrev pub ReadsFiles : Command → Type 0
 ReadsFiles (OfCheck check) = Unit {0}
 ReadsFiles (OfAudit audit) = Unit {0}
@@ -34,18 +34,18 @@ ReadsFiles (OfSolve solve) = Unit {0}
 ReadsFiles (OfMake make) = ⊥
 ReadsFiles (OfSure asked) = Unit {0}
 
--- a certificate, and upper bounds lowered at traps, are of paths without a bound on the steps, and of formulas with
--- none inside
+-- `check` takes only formulas with no bound on the steps and no formula inside if it is asked for a certificate or for
+-- upper bounds lowered at traps.
 abbrev pub check_paths : Check → Paths
 check_paths check = if check.plan || check.traps then Unbounded else Any
 
--- so are a certificate of `solve`, and values to begin with
+-- `solve` takes only such formulas if it is asked for a certificate or is given values to begin with.
 abbrev pub solve_paths : Solve → Paths
 solve_paths solve = if solve.plan || is_some solve.values then Unbounded else Any
 
 -- 1. Refusals.
 
--- the problem is posed, and this is the first refusal of the text under the name of the certificate
+-- The problem is posed, and this is the first refusal of the text under the name of the certificate.
 pub record RefusesBehind (holding : Option Holding) (audit : Audit) (refusal : Refusal) : Type 0 where
   pub problem : Problem
   pub posed : PosesIt holding audit.asked Unbounded problem
@@ -53,14 +53,14 @@ pub record RefusesBehind (holding : Option Holding) (audit : Audit) (refusal : R
   pub reached : posing_in problem ≡ Some posing
   pub certificate : SourceWith holding audit.certificate (λ source. RefusesCertificate posing.question source refusal)
 
--- the problem is posed, and this is the first refusal of the text under the name of values to begin with
+-- The problem is posed, and this is the first refusal of the text under the name of the values to begin with.
 pub record RefusesHints (holding : Option Holding) (solve : Solve) (refusal : Refusal) : Type 0 where
   pub problem : Problem
   pub posed : PosesIt holding solve.asked (solve_paths solve) problem
   pub values : RefusesValues holding solve.values (states_of problem) refusal
 
--- the first refusal of a command: of the problem, or else, for an audit, of the certificate, and for a `solve`, of
--- values to begin with
+-- This is the first refusal of a command: that of the problem, or else that of the certificate for an `audit`, or of
+-- the values to begin with for a `solve`.
 abbrev pub RefusesIt : Option Holding → Command → Refusal → Type 0
 RefusesIt holding (OfCheck check) refusal = RefusesQuestion holding check.asked (check_paths check) refusal
 RefusesIt holding (OfAudit audit) refusal =
@@ -72,7 +72,7 @@ RefusesIt holding (OfSure asked) refusal = RefusesQuestion holding asked Reachin
 
 -- 2. Texts that are held.
 
--- a text that a command needs is not held, and those before it are accepted
+-- A text that the command needs is not held, and the texts before it are accepted.
 abbrev pub IsMissing : Holding → Command → Type 0
 IsMissing held (OfCheck check) = reading_said (sources_of held check.asked) check.asked ≡ NotHeld
 IsMissing held (OfAudit audit) = (reading_said (sources_of held audit.asked) audit.asked ≡ NotHeld)
@@ -84,7 +84,7 @@ IsMissing held (OfSolve solve) = (reading_said (sources_of held solve.asked) sol
 IsMissing held (OfMake make) = ⊥
 IsMissing held (OfSure asked) = reading_said (sources_of held asked) asked ≡ NotHeld
 
--- all that a command needs is held and accepted
+-- All that the command needs is held and accepted.
 abbrev pub IsAcceptedOf : Holding → Command → Type 0
 IsAcceptedOf held (OfCheck check) = (problem : Problem)
     × Asks (check_paths check) (sources_of held check.asked) check.asked problem
@@ -97,7 +97,7 @@ IsAcceptedOf held (OfSolve solve) = (problem : Problem)
 IsAcceptedOf held (OfMake make) = Unit {0}
 IsAcceptedOf held (OfSure asked) = (problem : Problem) × Asks Reaching (sources_of held asked) asked problem
 
--- where the command reads files, it is told what is held, and all that it needs is held and accepted
+-- If the command reads files, then the holding is known, and all that the command needs is held and accepted.
 abbrev pub IsAcceptedFrom : Option Holding → Command → Type 0
 IsAcceptedFrom holding command = ReadsFiles command
     → (held : Holding) × (holding ≡ Some held) × IsAcceptedOf held command

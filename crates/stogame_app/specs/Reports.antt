@@ -1,4 +1,4 @@
--- What is reported to words, by the command that they denote and the paths of its formula.
+-- These definitions say what is reported to words, by the command that they denote and the paths of its formula.
 use Rattle.std.specs.Prelude.{◌≡◌, ◌≤◌, ℕ, Bool, List, Option, Some}
 use Rattle.text_lines.specs.Limits.{most_bytes}
 use Rattle.game_outside.specs.Outside.{Holding}
@@ -26,8 +26,8 @@ use Rattle.question_reports.specs.Sure.{IsSure}
 use Rattle.stogame_app.specs.Status.{sure_status}
 use Rattle.stogame_app.specs.Commands.{check_paths, solve_paths}
 
--- the words denote this command; with texts, those that are held where this is told, what it asks poses this problem,
--- by this formula; and no more bytes than the limit were taken of the last one
+-- The words denote this command. What it asks poses this problem, by this formula, with some texts; if the holding is
+-- known, these are the texts that are held. At most `most_bytes` bytes were taken from the last text.
 pub record WordsPose (words : List (List ℕ)) (holding : Option Holding) (taken : ℕ) (command : Command) (asked : Asked)
     (paths : Paths) (problem : Problem) (formula : Tree) : Type 0 where
   pub denoted : AreCommand words command
@@ -35,12 +35,12 @@ pub record WordsPose (words : List (List ℕ)) (holding : Option Holding) (taken
   pub spelled : DenotesFormula asked.formula formula
   pub short : taken ≤ most_bytes
 
--- they do so for this `check`
+-- The words denote this `check`, which poses this problem.
 abbrev pub Checks : List (List ℕ) → Option Holding → ℕ → Check → Problem → Tree → Type 0
 Checks words holding taken check problem f =
     WordsPose words holding taken (OfCheck check) check.asked (check_paths check) problem f
 
--- and for this `solve`
+-- The words denote this `solve`, which poses this problem.
 abbrev pub Solves : List (List ℕ) → Option Holding → ℕ → Solve → Problem → Tree → Type 0
 Solves words holding taken solve problem f =
     WordsPose words holding taken (OfSolve solve) solve.asked (solve_paths solve) problem f
@@ -48,48 +48,48 @@ Solves words holding taken solve problem f =
 -- The text and the status are the report of the command that the words denote.
 pub data IsReportOfWords (words : List (List ℕ)) (holding : Option Holding) (taken : ℕ) (text : List ℕ)
     (status : Status) : Type 0 where
-  -- `check` of `F`, `U` and, by its dual, `G`: bounds of the k-step values of a question
+  -- `check` of `F`, `U` and, by its dual, `G` reports bounds of the values of a question.
   of_reach : (check : Check) (p : Posing) (f : Tree) → Checks words holding taken check (OfReach p) f
       → IsBracketReport p.question p.initial f check text status → IsReportOfWords words holding taken text status
-  -- `check` of `F<=k` and `U<=k`: bounds of the values of exactly so many steps
+  -- `check` of `F<=k` and `U<=k` reports bounds of the values of exactly k steps.
   of_within : (check : Check) (steps : ℕ) (p : Posing) (f : Tree)
       → Checks words holding taken check (OfWithin steps p) f
       → IsWithinReport p.question steps p.initial f text status → IsReportOfWords words holding taken text status
-  -- `check` of `X`: bounds of the values of the next step
+  -- `check` of `X` reports bounds of the values of the next step.
   of_next : (check : Check) (p : NextPosing) (f : Tree) → Checks words holding taken check (OfNext p) f
       → IsNextReport p.question p.opening p.initial f text status → IsReportOfWords words holding taken text status
-  -- `check` of a formula with others inside: bounds that are sound for the exact question
+  -- `check` of a formula with others inside reports bounds that are sound for the exact question.
   of_nested : (check : Check) (model : Model) (initial : List ℕ) (f : Tree)
       → Checks words holding taken check (OfNested model initial) f
       → IsNestedReport model initial f (ByRounds check.rounds) text status
       → IsReportOfWords words holding taken text status
-  -- `audit`: the numbers of a certificate that the question accepts, from the text under its name
+  -- `audit` reports the numbers of a certificate that the question accepts, from the text under its name.
   of_audit : (audit : Audit) (problem : Problem) (p : Posing) (f : Tree)
       → WordsPose words holding taken (OfAudit audit) audit.asked Unbounded problem f → posing_in problem ≡ Some p
       → SourceWith holding audit.certificate
       (λ source. GivenTextWith source (λ bytes. IsAudit p.question p.initial f bytes text status))
       → IsReportOfWords words holding taken text status
-  -- `solve` of `F`, `U` and `G`: a plan that tables of a solver led to; where a file of values to begin with is named,
-  -- its text has no fault
+  -- `solve` of `F`, `U` and `G` reports a plan that the tables of a solver led to. If a file of values to begin with is
+  -- named, its text has no fault.
   of_solve : (solve : Solve) (p : Posing) (f : Tree) → Solves words holding taken solve (OfReach p) f
       → GivesValues holding solve.values (states p.question) → IsSolved p.question p.initial f solve.plan text status
       → IsReportOfWords words holding taken text status
-  -- `solve` of `F<=k`, `U<=k` and `X`: as `check`
+  -- `solve` of `F<=k`, `U<=k` and `X` reports what `check` reports.
   of_solve_within : (solve : Solve) (steps : ℕ) (p : Posing) (f : Tree)
       → Solves words holding taken solve (OfWithin steps p) f
       → IsWithinReport p.question steps p.initial f text status → IsReportOfWords words holding taken text status
   of_solve_next : (solve : Solve) (p : NextPosing) (f : Tree) → Solves words holding taken solve (OfNext p) f
       → IsNextReport p.question p.opening p.initial f text status → IsReportOfWords words holding taken text status
-  -- `solve` of a formula with others inside: bounds that are sound for the exact question, from plans in place of
-  -- rounds
+  -- `solve` of a formula with others inside reports bounds that are sound for the exact question. They come from plans
+  -- in place of rounds.
   of_solve_nested : (solve : Solve) (model : Model) (initial : List ℕ) (f : Tree)
       → Solves words holding taken solve (OfNested model initial) f
       → IsNestedReport model initial f BySolver text status → IsReportOfWords words holding taken text status
-  -- `sure`: the states that are almost sure of the question
+  -- `sure` reports the states that are almost sure of the question.
   of_sure : (asked : Asked) (problem : Problem) (p : Posing) (f : Tree) (all : Bool)
       → WordsPose words holding taken (OfSure asked) asked Reaching problem f → posing_in problem ≡ Some p
       → IsSure p.question p.initial text all → status ≡ sure_status all
       → IsReportOfWords words holding taken text status
-  -- `make`: a line about the bracket of the game that a seed draws
+  -- `make` reports one line about the bracket of the game that a seed draws.
   of_make : (make : Make) → AreCommand words (OfMake make) → IsMade make.seed make.states make.rounds text status
       → IsReportOfWords words holding taken text status

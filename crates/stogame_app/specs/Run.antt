@@ -1,4 +1,4 @@
--- How a run ends, what it has written then, and what it has asked of its shelf.
+-- These definitions say how a run ends, what it has written then, and what it has asked of its shelf.
 use Rattle.std.specs.Prelude.{◌≡◌, ◌<◌, ◌≤◌, ◌+◌, ◌⊎◌, ℕ, Bool, true, List, Option, Result, Ok, Err}
 use Rattle.text_lines.specs.Limits.{most_bytes}
 use Rattle.game_outside.specs.Limits.{piece_size}
@@ -23,12 +23,12 @@ use Rattle.stogame_app.specs.Reports.{IsReportOfWords}
 
 -- 1. What is written.
 
--- the refusal is that some text is too long
+-- The refusal is that some text is too long.
 abbrev pub IsLong : Refusal → Type 0
 IsLong refusal = (text : Text) × (refusal ≡ TooLong text)
 
--- the words denote a command of which this is the first refusal, and not for want of memory; it says that a text is too
--- long exactly where more bytes than the limit were taken of the last one
+-- The words denote a command of which this is the first refusal, and its cause is not that memory ran out. It says that
+-- a text is too long exactly if more than `most_bytes` bytes were taken from the last text.
 pub record RefusesWords (words : List (List ℕ)) (holding : Option Holding) (taken : ℕ)
     (refusal : Refusal) : Type 0 where
   pub command : Command
@@ -38,7 +38,7 @@ pub record RefusesWords (words : List (List ℕ)) (holding : Option Holding) (ta
   pub long : IsLong refusal → most_bytes < taken
   pub only_long : most_bytes < taken → IsLong refusal
 
--- this is the line of such a refusal, whose numbers are written in full, and this is its status
+-- This is the line of such a refusal, whose numbers are written in full, and this is its status.
 pub record IsRefusalOfWords (words : List (List ℕ)) (holding : Option Holding) (taken : ℕ) (text : List ℕ)
     (status : Status) : Type 0 where
   pub refusal : Refusal
@@ -47,40 +47,40 @@ pub record IsRefusalOfWords (words : List (List ℕ)) (holding : Option Holding)
   pub line : text ≡ refusal_text refusal
   pub ends : status ≡ refused_status refusal
 
--- the words denote a command that reads files, and no more than the limit was taken of the last one
+-- The words denote a command that reads files, and at most `most_bytes` bytes were taken from the last text.
 pub record IsUnreadOfWords (words : List (List ℕ)) (taken : ℕ) : Type 0 where
   pub command : Command
   pub denoted : AreCommand words command
   pub reads : ReadsFiles command
   pub short : taken ≤ most_bytes
 
--- the words denote no command, and this is the usage line
+-- The words denote no command, and this is the usage line.
 pub record IsUsageOfWords (words : List (List ℕ)) (text : List ℕ) : Type 0 where
   pub no_command : AreNoCommand words
   pub line : text ≡ usage_text
 
--- the text that a run with these words makes
+-- This is a text that a run with these words makes.
 abbrev pub IsOutput : List (List ℕ) → Option Holding → ℕ → List ℕ → Type 0
 IsOutput words holding taken text = ((status : Status) × IsReportOfWords words holding taken text status)
     ⊎ (((status : Status) × IsRefusalOfWords words holding taken text status) ⊎ IsUsageOfWords words text)
 
 -- 2. How a run ends.
 
--- there is such a text, by which the output grew where its bytes are told
+-- There is such a text, and the output grew by it if the bytes of the output are known.
 pub record Writes (old new : Option (List ℕ)) (IsText : List ℕ → Type 0) : Type 0 where
   pub text : List ℕ
   pub is : IsText text
   pub grows : GrowsBy old new text
 
--- there is such a text, by a front of which it grew where they are told
+-- There is such a text, and the output grew by a prefix of it if the bytes of the output are known.
 pub record WritesFront (old new : Option (List ℕ)) (IsText : List ℕ → Type 0) : Type 0 where
   pub text : List ℕ
   pub is : IsText text
   pub grows : GrowsByPrefix old new text
 
--- How a run with these words ends, by its status, where the output was the first and is the second: with a report, a
--- refusal or the usage line, which was written; with a fault of reading or want of
--- memory, and nothing was written; or with a fault of writing.
+-- A run with these words ends with this status and turns the first output into the second. Either it has written a
+-- report, a refusal or the usage line. Or it ended with a fault of reading, or because memory ran out, and wrote
+-- nothing. Or it ended with a fault of writing, and wrote a prefix of such a text.
 abbrev pub IsEnding : List (List ℕ) → Option Holding → ℕ → Option (List ℕ) → Option (List ℕ) → Status → Type 0
 IsEnding words holding taken old new Fine = Writes old new (λ text. IsReportOfWords words holding taken text Fine)
 IsEnding words holding taken old new SomeFalse =
@@ -96,44 +96,45 @@ IsEnding words holding taken old new ReadFault = IsUnreadOfWords words taken × 
 IsEnding words holding taken old new WriteFault = WritesFront old new (λ text. IsOutput words holding taken text)
 IsEnding words holding taken old new OutOfMemory = new ≡ old
 
--- 3. What it asks of the shelf.
+-- 3. What a run asks of the shelf.
 
--- the words denote no command that reads files
+-- The words denote no command that reads files.
 abbrev pub NeedNoFile : List (List ℕ) → Type 0
 NeedNoFile words = (command : Command) → AreCommand words command → ¬ ReadsFiles command
 
--- the words need no file, or the shelf can be read: it is steady, or no fault of it arose
+-- The words need no file, or the shelf can be read: it is steady, or no fault of it arose.
 abbrev pub IsReadable : {S : Type 0} → (S → Bool) → (S → ℕ) → List (List ℕ) → S → S → Type 0
 IsReadable steady faults words old new = NeedNoFile words ⊎ ((steady old ≡ true) ⊎ (¬ Rose (faults old) (faults new)))
 
--- the words denote a command, and where the holding is told, a text that it needs is not held
+-- The words denote a command and, if the holding is known, a text that the command needs is not held.
 pub record IsMissingOfWords (words : List (List ℕ)) (holding : Option Holding) : Type 0 where
   pub command : Command
   pub denoted : AreCommand words command
   pub missing : IfKnown holding (λ held. IsMissing held command)
 
--- What a run with these words does to a shelf, by the status with which it ends.
+-- This is what a run with these words does to a shelf, by the status with which it ends.
 pub record AsksShelf {S : Type 0} (held : S → Option Holding) (steady : S → Bool) (faults took : S → ℕ)
     (words : List (List ℕ)) (old new : S) (status : Status) : Type 0 where
-  -- where no file is needed, it is not asked
+  -- If no file is needed, the shelf is not asked.
   pub untouched : NeedNoFile words → new ≡ old
-  -- what is held, and whether it is steady, stay, and the count of faults does not fall
+  -- The holding and the steadiness stay the same, and the count of faults does not fall.
   pub kept : KeepsShelf (held old) (held new) (steady old) (steady new) (faults old) (faults new)
   pub taken : (took new ≡ took old) ⊎ (took new ≤ most_bytes + piece_size)
-  -- a fault of reading is answered only where the count rose, and over a steady shelf only where a text is not held
+  -- A run ends with a fault of reading only if the count rose, and over a steady shelf only if a text is not held.
   pub read_fault : status ≡ ReadFault → Rose (faults old) (faults new)
   pub steadily : status ≡ ReadFault → steady old ≡ true → IsMissingOfWords words (held old)
 
 -- 4. What is made for words.
 
--- what was made is the report of the command that the words denote, or its refusal, or a text of it could not be read
+-- What was made is the report of the command that the words denote, or its refusal, or a text of it could not be read,
+-- or memory ran out.
 abbrev pub AnswersWords : List (List ℕ) → Option Holding → ℕ → Result Answer End → Type 0
 AnswersWords words holding taken (Ok answer) = IsReportOfWords words holding taken answer.text.items answer.status
 AnswersWords words holding taken (Err end.OutOfMemory) = Unit {0}
 AnswersWords words holding taken (Err end.ReadFault) = IsUnreadOfWords words taken
 AnswersWords words holding taken (Err (end.Refused refusal)) = RefusesWords words holding taken refusal
 
--- the words denote a command that is accepted of what is held
+-- The words denote a command, and all that it needs is held and accepted.
 pub record IsAcceptedOfWords (words : List (List ℕ)) (holding : Option Holding) : Type 0 where
   pub command : Command
   pub denoted : AreCommand words command

@@ -1,4 +1,4 @@
--- The status of the report of `sure`, and of a refusal.
+-- These are the statuses of a report of `sure` and of a refusal.
 use Rattle.std.specs.Prelude.{◌≡◌, ◌⊎◌, Bool, if◌then◌else◌}
 use Rattle.run_refusals.specs.declared.refusal.Refusal.{Refusal}
 use Rattle.run_refusals.specs.declared.refusal.Refusal.TheVariants.{OfTra, OfLab, OfOwn, OfFormula, OfQuestion}
@@ -7,11 +7,11 @@ use Rattle.run_refusals.specs.declared.refusal.Text.TheVariants.{Tra, Lab, Own, 
 use Rattle.run_answers.specs.declared.status.Status.{Status}
 use Rattle.run_answers.specs.declared.status.Status.TheVariants.{Fine, SomeFalse, ModelRefused, CertificateRefused}
 
--- all is well where every initial state is sure
+-- The status is `Fine` if every initial state is sure, and else `SomeFalse`.
 abbrev pub sure_status : Bool → Status
 sure_status all = if all then Fine else SomeFalse
 
--- the status of a refusal: a certificate has one of its own
+-- This is the status of a refusal. A refused certificate has a status of its own.
 abbrev pub refused_status : Refusal → Status
 refused_status (OfTra fault) = ModelRefused
 refused_status (OfLab fault) = ModelRefused
@@ -27,6 +27,6 @@ refused_status (TooLong Own) = ModelRefused
 refused_status (TooLong Cert) = CertificateRefused
 refused_status (TooLong Values) = ModelRefused
 
--- the line of a refusal was written
+-- With this status the line of a refusal was written.
 abbrev pub IsRefusal : Status → Type 0
 IsRefusal status = (status ≡ ModelRefused) ⊎ (status ≡ CertificateRefused)

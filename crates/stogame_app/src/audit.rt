@@ -1,4 +1,4 @@
-//! The answer of `audit`: a certificate of any origin is checked for a question.
+//! This module answers `audit`: it checks a certificate of any origin for a question.
 
 ghost use Rattle.std.specs.Prelude.{Ok};
 ghost use Rattle.rpatl_syntax.specs.Dual.{IsAtMostOne};
@@ -15,7 +15,7 @@ use question_reports::audit_report;
 use run_answers::Answer;
 use std::alloc::Global;
 
-/// The report of `audit`, or why there is none.
+/// Answers `audit` with its report, or says why there is none.
 pub fn answer_audit<H: Shelf>(
     alloc: Global,
     audit: &AuditWords<'_>,
@@ -27,7 +27,7 @@ pub fn answer_audit<H: Shelf>(
     audit_loaded(alloc, &loaded, audit, shelf)
 }
 
-// The report on what was loaded, from the certificate that is read behind it.
+// Reports on what was loaded, from the certificate, which is read after it.
 fn audit_loaded<H: Shelf>(
     alloc: Global,
     loaded: &Loaded,

@@ -1,4 +1,4 @@
-//! The answer of `check`: the bracket of a question, or exactly so many steps.
+//! This module answers `check` with the bracket of a question, or with exactly as many steps as the formula names.
 
 ghost use Rattle.std.specs.Prelude.{◌≡◌, ◌<◌, ℕ, List, Option, All, IfOk};
 ghost use Rattle.game_outside.specs.Outside.{Holding};
@@ -28,7 +28,7 @@ use run_answers::Answer;
 use std::alloc::Global;
 use std::thread::Threads;
 
-/// The report of `check`, with its certificate where that is asked for, or why there is none.
+/// Answers `check` with its report, and a certificate if it is asked for, or says why there is none.
 pub fn answer_check<R: Threads + Sync, H: Shelf, G: Gate + Sync>(
     rt: &R,
     alloc: Global,
@@ -43,8 +43,8 @@ pub fn answer_check<R: Threads + Sync, H: Shelf, G: Gate + Sync>(
     check_loaded(rt, alloc, &loaded, check, gate)
 }
 
-// The report on what was loaded. It does not hold the model: what a function holds is proved to be let go wherever it
-// may leave.
+// Reports on what was loaded. This function does not own the model, because what a function owns has to be proved
+// released at each of its exits.
 fn check_loaded<R: Threads + Sync, G: Gate + Sync>(
     rt: &R,
     alloc: Global,
@@ -58,7 +58,7 @@ fn check_loaded<R: Threads + Sync, G: Gate + Sync>(
     requires read { (holding : Option Holding) × Reads holding (check_of check.now).asked (reading_of loaded.now) }
     ensures { IsMadeOf (OfCheck (check_of check.now)) (check_of check.now).asked (reading_of loaded.now) result }
 {
-    // Two laws: these calls do nothing.
+    // These two calls do nothing: they are laws.
     formulas_of_texts_are_spellable();
     formulas_inside_are_few();
     let problem = pose_loaded(alloc, loaded, check_paths(check))?;
@@ -66,7 +66,7 @@ fn check_loaded<R: Threads + Sync, G: Gate + Sync>(
     Ok(answer)
 }
 
-// The report on a problem, by the kind of its paths, with its certificate where that is asked for.
+// Reports on a problem by the kind of its paths, with its certificate if it is asked for.
 fn report_on<R: Threads + Sync, G: Gate + Sync>(
     rt: &R,
     alloc: Global,
@@ -103,8 +103,8 @@ fn report_on<R: Threads + Sync, G: Gate + Sync>(
     }
 }
 
-// Which formulas are taken: where a certificate or lowered upper bounds are asked for, those without a bound on the
-// steps and with none inside.
+// Says which formulas are taken. If a certificate or lowered upper bounds are asked for, these are the formulas with no
+// bound on the steps and no formula inside.
 fn check_paths(check: &CheckWords<'_>) -> Paths
     ensures { result ≡ check_paths (check_of check.now) }
 {

@@ -1,4 +1,4 @@
-//! The top call: from the words and the bytes read to the bytes written.
+//! This is the top call, from the words and the bytes read to the bytes written.
 
 ghost use Rattle.std.specs.Prelude.{◌≡◌, ◌⊎◌, Some, true, map};
 ghost use Rattle.std.specs.String.{string_bytes};
@@ -25,21 +25,27 @@ use run_answers::{Answer, Status};
 use std::alloc::Global;
 use std::thread::Threads;
 
-/// Reads the words and the texts that they name. `check` computes a bracket of the question that they pose, and writes
-/// one line for each initial state, rising, and the certificate where the words ask for it; `audit` writes these lines
-/// from a certificate of any origin that the question accepts, and computes no bracket; `solve` from tables that a
-/// solver finds, where they pass the checks of an audit; `sure` lists the states from which a goal is reached almost
-/// surely; `make` writes one line about the bracket of a game that a seed draws. With `check`, `audit` and `solve`, `F`
-/// and `U`, the value of the question lies between the printed bounds; with `--traps` the upper one is lowered to the
-/// best exits of traps. The minimiser's choices of the certificate hold every strategy of the maximiser, with memory
-/// and dice, to the upper bounds, and the maximiser's reach the lower ones, less any 1/m, within some number of steps
-/// against every strategy of the minimiser. True and False are printed exactly where the bounds settle the threshold,
-/// and are then true and false of the value, whatever the schedule of the workers, who pass a gate before states. Of
-/// `G` all this is so of its dual, and 1 less its bounds is printed. With `F<=k`, `U<=k` and `X` exactly so many steps
-/// are made, and what both sides can be sure of within them, or next, lies between the bounds. With formulas inside a
-/// first line counts them and what their bounds leave undecided; the bounds are sound, and True and False right, for
-/// the exact question, in which each formula inside holds where it is true. What is not accepted is refused by one line
-/// that names the cause and its place. The whole output is made in memory first and written once.
+/// Reads the words and the texts that they name, makes the whole output in memory, and writes it once.
+///
+/// - `check` computes a bracket of the question that the words pose. It writes one line for each initial state, in
+///   rising order, and the certificate if the words ask for it.
+/// - `audit` writes these lines from a certificate of any origin that the question accepts, and computes no bracket.
+/// - `solve` writes them from tables that a solver finds, if the tables pass the checks of an audit.
+/// - `sure` lists the states from which a goal is reached almost surely.
+/// - `make` writes one line about the bracket of a game that a seed draws.
+///
+/// With `check`, `audit` and `solve` of `F` and `U`, the value of the question lies between the printed bounds. With
+/// `--traps` the upper bounds are lowered to the best exits of traps. The minimiser's choices of the certificate hold
+/// every strategy of the maximiser, with memory and dice, to the upper bounds. The maximiser's choices reach the lower
+/// bounds, less any 1/m, within some number of steps against every strategy of the minimiser. True and False are
+/// printed exactly when the bounds settle the threshold, and are then true and false of the value. This is so for every
+/// schedule of the workers, who pass a gate before states. For `G` all this holds of its dual, and 1 less the bounds of
+/// the dual is printed.
+///
+/// With `F<=k` and `U<=k` exactly k steps are made, and with `X` one step. What both sides can be sure of within these
+/// steps lies between the bounds. With formulas inside, a first line counts them and what their bounds leave undecided.
+/// The bounds are sound, and True and False are right, for the exact question, in which each formula inside holds where
+/// it is true. What is not accepted is refused by one line that names the cause and its place.
 pub fn run<R: Threads + Sync, H: Shelf, K: Sink, G: Gate + Sync>(
     rt: &R,
     alloc: Global,
@@ -48,23 +54,23 @@ pub fn run<R: Threads + Sync, H: Shelf, K: Sink, G: Gate + Sync>(
     out: &mut K,
     gate: &G,
 ) -> Status
-    // How it ends, by its status, and what it has written then.
+    // The status says how the run ends and what it has written then.
     ensures ends { IsEnding (map string_bytes words.now) (H.held shelf.old) (H.taken shelf.new) (K.written out.old)
         (K.written out.new) result }
 
-    // What it asks of the shelf. A fault of the outside is answered only where its count rose.
+    // These clauses say what the run does to the shelf. A fault of the outside is answered only if its count rose.
     ensures shelf { AsksShelf H.held H.steady H.faults H.taken (map string_bytes words.now) shelf.old shelf.new result }
     ensures write_fault { result ≡ Status.WriteFault → Rose (K.faults out.old) (K.faults out.new) }
 
-    // It does not give up by itself: where what the words need is held and accepted, the shelf can be read, and no
-    // fault of writing arose, it answers, or lacks memory.
+    // The run does not give up by itself: if what the words need is held and accepted, the shelf can be read, and no
+    // fault of writing arose, it answers or lacks memory.
     ensures complete { IsAcceptedOfWords (map string_bytes words.now) (H.held shelf.old)
         → IsReadable H.steady H.faults (map string_bytes words.now) shelf.old shelf.new
         → ¬ Rose (K.faults out.old) (K.faults out.new) → IsAnswer result ⊎ (result ≡ Status.OutOfMemory) }
 {
     match read_words(alloc, words) {
         Ok(Some(command)) => {
-            // Three laws: these calls do nothing.
+            // These three calls do nothing: they are laws.
             words_denote_one_command();
             questions_are_what_is_asked();
             audits_have_one_answer();
@@ -76,7 +82,7 @@ pub fn run<R: Threads + Sync, H: Shelf, K: Sink, G: Gate + Sync>(
     }
 }
 
-// The answer to a command, or why there is none.
+// Answers a command, or says why there is no answer.
 fn answer<R: Threads + Sync, H: Shelf, G: Gate + Sync>(
     rt: &R,
     alloc: Global,

@@ -1,4 +1,4 @@
-//! How a run ends, and what it writes then.
+//! This module ends a run and writes what it ends with.
 
 ghost use Rattle.std.specs.Prelude.{◌≡◌, ◌≢◌, ◌⊎◌, ℕ, List, Option, Err, IfOk};
 ghost use Rattle.game_outside.specs.Outside.{Holding, Rose, GrowsBy, GrowsByPrefix};
@@ -13,7 +13,7 @@ use run_answers::{Answer, Status};
 use run_refusals::{Refusal, Text, refusal_line, usage_line};
 use std::alloc::Global;
 
-/// Writes a text, and answers the status where that succeeds.
+/// Writes a text, and returns the status if that succeeds.
 pub fn say<K: Sink>(out: &mut K, text: &[u8], status: Status) -> Status
     requires { status ≢ Status.WriteFault }
     ensures either { (result ≡ status) ⊎ (result ≡ Status.WriteFault) }
@@ -40,8 +40,8 @@ pub fn end_with_usage<K: Sink>(alloc: Global, out: &mut K) -> Status
     }
 }
 
-/// Writes the answer to a command, or the line of its refusal; a text that can't be read and want of memory are
-/// answered by the status alone.
+/// Writes the answer to a command, or the line of its refusal. If a text can't be read or memory runs out, only the
+/// status tells it.
 pub fn end_run<K: Sink>(alloc: Global, out: &mut K, made: Result<Answer, End>) -> Status
     requires { IfOk made (λ answer. IsAnswer answer.status) }
     ensures ends { (words : List (List ℕ)) (holding : Option Holding) (taken : ℕ)
@@ -73,7 +73,7 @@ fn end_with_refusal<K: Sink>(alloc: Global, out: &mut K, refusal: &Refusal) -> S
     }
 }
 
-// The status of a refusal: a certificate has one of its own.
+// Returns the status of a refusal. A refused certificate has a status of its own.
 fn refused_status(refusal: &Refusal) -> Status
     ensures { result ≡ refused_status refusal.now }
 {

@@ -1,11 +1,11 @@
-//! Laws of the run. Each function does nothing; its contract is the law.
+//! This module has the laws of the run. Each function does nothing: its contract is the law.
 //!
-//! - [`closing`]: brackets of questions whose plays come to an end close, and how fast.
-//! - [`horizons`]: what printed bounds and verdicts say of the values within k steps.
+//! - [`closing`]: brackets of questions whose plays come to an end close at a known rate.
+//! - [`horizons`]: printed bounds and verdicts hold of the values within k steps.
 //! - [`saved`]: what `check` and `solve` write is no longer than a text may be, and an audit of the same question
 //!   accepts it.
 //!
-//! Here: how a run ends, by its status.
+//! This module itself says how a run ends, by its status.
 
 pub mod closing;
 pub mod horizons;
@@ -19,8 +19,8 @@ ghost use Rattle.stogame_app.specs.Reports.{IsReportOfWords};
 ghost use Rattle.stogame_app.specs.Run.{IsEnding, IsRefusalOfWords, Writes};
 ghost use Rattle.stogame_app.specs.Status.{IsRefusal};
 
-/// A run that ends with status 0, 1 or 2 has written the report of the command that its words denote, and one that ends
-/// with status 4 or 8 the line of its refusal.
+/// A run that ends with status 0, 1 or 2 has written the report of the command that its words denote. A run that ends
+/// with status 4 or 8 has written the line of its refusal.
 pub fn endings_are_told_by_their_status()
     ensures reports { (words : List (List ℕ)) (holding : Option Holding) (taken : ℕ) (old new : Option (List ℕ))
         (status : Status) → IsEnding words holding taken old new status

@@ -1,4 +1,4 @@
-//! The answer of `make`: the bracket of a game that a seed draws.
+//! This module answers `make` with the bracket of a game that a seed draws.
 
 ghost use Rattle.std.specs.Prelude.{◌≡◌, ℕ, List, Option, Err, IfOk};
 ghost use Rattle.game_outside.specs.Outside.{Holding};
@@ -14,7 +14,8 @@ use run_answers::Answer;
 use std::alloc::Global;
 use std::thread::Threads;
 
-/// The summary of the bracket of a drawn game. The only end without one is want of memory.
+/// Answers `make` with a summary of the bracket of the drawn game. The only end without an answer is that memory ran
+/// out.
 pub fn answer_make<R: Threads + Sync, G: Gate + Sync>(
     rt: &R,
     alloc: Global,

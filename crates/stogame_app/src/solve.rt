@@ -1,4 +1,5 @@
-//! The answer of `solve`: bounds that a solver finds, where they pass the checks of an audit, or exactly so many steps.
+//! This module answers `solve` with bounds that a solver finds, if they pass the checks of an audit, or with exactly as
+//! many steps as the formula names.
 
 ghost use Rattle.std.specs.Prelude.{◌≡◌, ◌<◌, ◌≤◌, ℕ, List, Ok, Option, All, IfOk, option_map};
 ghost use Rattle.text_lines.specs.Limits.{most_bytes};
@@ -30,10 +31,10 @@ use run_answers::Answer;
 use std::alloc::Global;
 use std::thread::Threads;
 
-/// The most workers of a step.
+/// A step has at most this many workers.
 const WORKERS: u32 = 4;
 
-/// The report of `solve`, or why there is none.
+/// Answers `solve` with its report, or says why there is none.
 pub fn answer_solve<R: Threads + Sync, H: Shelf, G: Gate + Sync>(
     rt: &R,
     alloc: Global,
@@ -47,7 +48,7 @@ pub fn answer_solve<R: Threads + Sync, H: Shelf, G: Gate + Sync>(
     solve_loaded(rt, alloc, &loaded, solve, shelf, gate)
 }
 
-// The report on what was loaded, with values to begin with that are read behind it.
+// Reports on what was loaded, with values to begin with, which are read after it.
 fn solve_loaded<R: Threads + Sync, H: Shelf, G: Gate + Sync>(
     rt: &R,
     alloc: Global,
@@ -64,7 +65,7 @@ fn solve_loaded<R: Threads + Sync, H: Shelf, G: Gate + Sync>(
         → LoadingLeaves H.held H.steady H.faults H.taken before shelf.old (Ok loaded.now)
         → IsAnswered H.held H.steady H.faults H.taken (OfSolve (solve_of solve.now)) before shelf.new result }
 {
-    // Two laws: these calls do nothing.
+    // These two calls do nothing: they are laws.
     formulas_of_texts_are_spellable();
     formulas_inside_are_few();
     let problem = pose_loaded(alloc, loaded, solve_paths(solve))?;
@@ -74,7 +75,7 @@ fn solve_loaded<R: Threads + Sync, H: Shelf, G: Gate + Sync>(
     Ok(answer)
 }
 
-// The report on a problem, by the kind of its paths, with its certificate where that is asked for.
+// Reports on a problem by the kind of its paths, with its certificate if it is asked for.
 fn report_on<R: Threads + Sync, G: Gate + Sync>(
     rt: &R,
     alloc: Global,
@@ -111,8 +112,8 @@ fn report_on<R: Threads + Sync, G: Gate + Sync>(
     }
 }
 
-// Which formulas are taken: where a certificate is asked for or values are given, those without a bound on the steps
-// and with none inside.
+// Says which formulas are taken. If a certificate is asked for or values are given, these are the formulas with no
+// bound on the steps and no formula inside.
 fn solve_paths(solve: &SolveWords<'_>) -> Paths
     ensures { result ≡ solve_paths (solve_of solve.now) }
 {
@@ -123,7 +124,7 @@ fn solve_paths(solve: &SolveWords<'_>) -> Paths
     }
 }
 
-// How many states the game of a problem has.
+// Counts the states of the game of a problem.
 fn states_in(problem: &Problem<'_>) -> u32
     ensures { result ≡ states_of (problem_of problem.now) }
 {
@@ -134,7 +135,7 @@ fn states_in(problem: &Problem<'_>) -> u32
     }
 }
 
-// Values to begin with, where there are any.
+// Borrows the values to begin with, if there are any.
 fn as_hints(read: &Option<Vec<f64>>) -> Option<&[f64]>
     ensures { option_map (λ hints. hints.now) result ≡ option_map (λ values. values.items) read.now }
 {

@@ -1,4 +1,4 @@
-//! The answer of `sure`: the states from which a goal is reached almost surely.
+//! This module answers `sure` with the states from which a goal is reached almost surely.
 
 ghost use Rattle.std.specs.Prelude.{◌≡◌};
 ghost use Rattle.rpatl_syntax.specs.Dual.{IsAtMostOne};
@@ -15,7 +15,7 @@ use question_reports::sure_report;
 use run_answers::{Answer, Status};
 use std::alloc::Global;
 
-/// The report of `sure`, or why there is none.
+/// Answers `sure` with its report, or says why there is none.
 pub fn answer_sure<H: Shelf>(
     alloc: Global,
     asked: &AskedWords<'_>,
@@ -28,7 +28,7 @@ pub fn answer_sure<H: Shelf>(
     sure_of_loaded(alloc, &loaded, asked)
 }
 
-// The report on what was loaded.
+// Reports on what was loaded.
 fn sure_of_loaded(alloc: Global, loaded: &Loaded, asked: &AskedWords<'_>) -> Result<Answer, End>
     requires sizes { HasSizes loaded.now.game loaded.now.labels loaded.now.owners }
     requires share { IsAtMostOne loaded.now.formula.bound }
@@ -43,7 +43,7 @@ fn sure_of_loaded(alloc: Global, loaded: &Loaded, asked: &AskedWords<'_>) -> Res
     })
 }
 
-// All is well where every initial state is sure.
+// The status is `Fine` if every initial state is sure, and else `SomeFalse`.
 fn sure_status(all: bool) -> Status
     ensures status { result ≡ sure_status all }
     ensures answer { IsAnswer result }

@@ -1,4 +1,4 @@
--- Questions whose plays come to an end, and how fast their brackets close.
+-- This module defines questions whose plays come to an end, and how fast their brackets close.
 use Rattle.std.specs.Prelude.{ℕ, zero, suc, ◌+◌, ◌-◌, ◌*◌, ◌^◌, ◌<◌, ◌≤◌, Bool, false, ◌||◌, List, [], map}
 use Rattle.std.specs.Prelude.{slice_index_or, if◌then◌else◌}
 use Rattle.std.specs.List.{range_with_len}
@@ -10,18 +10,18 @@ use Rattle.game_model.specs.Dual.{open_numerator}
 use Rattle.game_model.specs.Limits.{unit}
 use Rattle.strategies.specs.Strategies.{worth}
 
--- a goal or a lost state
+-- A play is over at a goal or a lost state.
 abbrev pub is_over : Query → List Bool → ℕ → Bool
 is_over q lost s = is_goal q s || slice_index_or lost s false
 
--- the greatest probability of a play that is not over within k steps, whoever moves, over the k-th power of the
--- denominator
+-- This is the greatest probability that a play is not over within k steps, whoever moves, over the k-th power of the
+-- denominator.
 unfoldable pub undecided : Query → List Bool → ℕ → ℕ → ℕ
 undecided q lost zero s = if is_over q lost s then 0 else 1
 undecided q lost (suc k) s = if is_over q lost s then 0 else optimum Max (worth q (undecided q lost k))
     (choices_of q.game s)
 
--- the question whether a play is over: what ends it is a goal
+-- This question asks whether a play is over: its goals are the states that end a play.
 abbrev pub ending : Query → List Bool → Query
 ending q lost = record {
   game = q.game;
@@ -30,17 +30,19 @@ ending q lost = record {
   deads = map (λ s. false) (range_with_len 0 (states q));
 }
 
--- from every state, however both play, the play is over within n steps with a positive probability
+-- From every state, however both play, the play is over within n steps with a positive probability.
 abbrev pub IsStopping : Query → List Bool → ℕ → Type 0
 IsStopping q lost n = (s : ℕ) → s < states q → undecided q lost n s < denominator q.game ^ n
 
--- at most r units below the r-step values, and at most r units above those of not being lost
+-- The lower table is at most r units below the r-step values, and the upper table is at most r units above the values
+-- of not being lost.
 pub record AreClose (q : Query) (lost : List Bool) (r : ℕ) (lower upper : ℕ → ℕ) : Type 0 where
   pub below : (s : ℕ) → s < states q → unit * numerator q r s ≤ (lower s + r) * denominator q.game ^ r
   pub above : (s : ℕ) → s < states q → upper s * denominator q.game ^ r
       ≤ unit * open_numerator q lost r s + r * denominator q.game ^ r
 
--- the upper bound is at most 2 r units and (1 - 1/D^n)^j above the lower one
+-- The upper bound is above the lower one by at most 2 r units and the probability (1 - 1/D^n)^j, where D is the
+-- denominator.
 abbrev pub IsWithin : Query → ℕ → ℕ → ℕ → (ℕ → ℕ) → (ℕ → ℕ) → Type 0
 IsWithin q n j r lower upper = (s : ℕ) → s < states q →
     upper s * (denominator q.game ^ n) ^ j

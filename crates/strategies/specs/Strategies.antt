@@ -1,4 +1,5 @@
--- Strategies with memory and dice, and with which probability the play of two of them reaches a goal.
+-- This module defines strategies with memory and dice, and with which probability the play of two of them reaches a
+-- goal.
 use Rattle.std.specs.Prelude.{ℕ, zero, suc, ◌+◌, ◌-◌, ◌*◌, ◌/◌, ◌^◌, ◌<◌, ◌≤◌, ◌≡◌, List, [], ◌∷◌, length, sum_by}
 use Rattle.std.specs.Prelude.{if◌then◌else◌, Option}
 use Rattle.std.specs.List.{range_with_len}
@@ -10,32 +11,33 @@ use Rattle.game_model.specs.Values.{weighted_sum, denominator, numerator}
 use Rattle.game_model.specs.Limits.{unit}
 use Rattle.game_model.specs.Plans.{planned_place}
 
--- a turn that was played: the state, the throw of a die, and the choice that was taken
+-- A turn that was played has the state, the throw of a die, and the choice that was taken.
 pub record Turn : Type 0 where
   pub state : ℕ
   pub throw : ℕ
   pub choice : ℕ
 
--- a strategy takes a choice by the turns so far, the last one first, by the present state and by a throw
+-- A strategy takes a choice by the turns so far, the last one first, by the present state and by a throw.
 abbrev pub Strategy : Type 0
 Strategy = List Turn → ℕ → ℕ → ℕ
 
--- it takes a choice that exists at each state of its side, after whatever turns and at whatever throw
+-- At each state of its side the strategy takes a choice that exists, after any turns and at any throw.
 abbrev pub IsStrategyOf : Query → Side → Strategy → Type 0
 IsStrategyOf q side strategy = (past : List Turn) (s throw : ℕ) → s < states q → side_at q s ≡ side
     → strategy past s throw < length (choices_of q.game s)
 
--- the strategy of the side that is to move
+-- This is the strategy of the side that moves.
 abbrev pub of_side : Side → Strategy → Strategy → Strategy
 of_side Max greatest least = greatest
 of_side Min greatest least = least
 
--- what a choice is worth, where its successors are worth this
+-- A choice is worth this if its successors are worth the entries of the table.
 abbrev pub worth : Query → (ℕ → ℕ) → Distribution → ℕ
 worth q table choice = denominator q.game / choice.total * weighted_sum table choice.edges
 
--- the probability of reaching a goal within k steps, over the k-th power of faces and denominator: at a goal 1, at a
--- dead state 0, and elsewhere the average, over the faces of a die, of the choice that is taken
+-- This is the probability of reaching a goal within k steps, over the k-th power of faces times denominator. It is 1 at
+-- a goal and 0 at a dead state. At every other state it is the average, over the faces of a die, of the choice that is
+-- taken.
 unfoldable pub reach : Query → ℕ → Strategy → Strategy → ℕ → List Turn → ℕ → ℕ
 reach q faces greatest least zero past s = if is_goal q s then 1 else 0
 reach q faces greatest least (suc k) past s =
@@ -44,50 +46,52 @@ reach q faces greatest least (suc k) past s =
     worth q (reach q faces greatest least k (record { state = s; throw = throw; choice = choice } ∷ past))
     (choice_of q.game s choice)) (range_with_len 0 faces))
 
--- the strategy that needs neither memory nor dice: to take the planned choice
+-- This strategy takes the planned choice, and needs neither memory nor dice.
 abbrev pub by_plan : Query → List (Option ℕ) → Strategy
 by_plan q plan = λ past s throw. planned_place plan s (length (choices_of q.game s))
 
--- where so many units are probability 1: the minimiser's plan holds every strategy of the maximiser to the table, at
--- every horizon
+-- If `top` units are probability 1, the minimiser's plan holds every strategy of the maximiser to the table, at every
+-- horizon.
 abbrev pub HoldsOver : ℕ → Query → List (Option ℕ) → (ℕ → ℕ) → Type 0
 HoldsOver top q plan table = (faces k s : ℕ) (opponent : Strategy) → IsStrategyOf q Max opponent → s < states q →
     top * reach q faces opponent (by_plan q plan) k [] s ≤ table s * (faces * denominator q.game) ^ k
 
--- the maximiser's plan reaches the table, less any 1/m, against every strategy of the minimiser, at one horizon
+-- For each m there is a horizon at which the maximiser's plan reaches the table, less 1/m, against every strategy of
+-- the minimiser.
 abbrev pub ReachesOver : ℕ → Query → List (Option ℕ) → (ℕ → ℕ) → Type 0
 ReachesOver top q plan table = (m : ℕ) → 1 ≤ m
     → (k : ℕ) × ((faces s : ℕ) (opponent : Strategy) → IsStrategyOf q Min opponent → s < states q →
     m * table s * (faces * denominator q.game) ^ k
     ≤ top * (m * reach q faces (by_plan q plan) opponent k [] s + (faces * denominator q.game) ^ k))
 
--- so in the units of tables
+-- In the units of tables, the minimiser's plan holds every strategy of the maximiser to the table.
 abbrev pub HoldsAgainstAll : Query → List (Option ℕ) → (ℕ → ℕ) → Type 0
 HoldsAgainstAll q plan table = HoldsOver unit q plan table
 
--- in the units of tables: the maximiser's plan reaches the table, less any 1/m, against every strategy of the minimiser
+-- In the units of tables, the maximiser's plan reaches the table, less any 1/m, against every strategy of the
+-- minimiser.
 abbrev pub ReachesAgainstAll : Query → List (Option ℕ) → (ℕ → ℕ) → Type 0
 ReachesAgainstAll q plan table = ReachesOver unit q plan table
 
--- the probability of not winning within k steps: of reaching no goal, or one behind a dead state alone
+-- This is the probability of not winning within k steps: of reaching no goal, or a goal only after a dead state.
 abbrev pub avoid : Query → ℕ → Strategy → Strategy → ℕ → ℕ → ℕ
 avoid q faces greatest least k s = (faces * denominator q.game) ^ k - reach q faces greatest least k [] s
 
--- with the minimiser's plan goals are avoided with at least the probability of the table, however many steps are made
--- and whatever the maximiser does
+-- With the minimiser's plan goals are avoided with at least the probability of the table, however many steps are made
+-- and whatever the maximiser does.
 abbrev pub AvoidsAgainstAll : Query → List (Option ℕ) → (ℕ → ℕ) → Type 0
 AvoidsAgainstAll q plan table = (faces k s : ℕ) (opponent : Strategy) → IsStrategyOf q Max opponent → s < states q →
     table s * (faces * denominator q.game) ^ k ≤ unit * avoid q faces opponent (by_plan q plan) k s
 
--- with the maximiser's plan they are avoided with at most that of the table and any 1/m, within some number of steps
--- and whatever the minimiser does
+-- For each m there is a number of steps within which, with the maximiser's plan, goals are avoided with at most the
+-- probability of the table and 1/m, whatever the minimiser does.
 abbrev pub IsAvoidedAgainstAll : Query → List (Option ℕ) → (ℕ → ℕ) → Type 0
 IsAvoidedAgainstAll q plan table = (m : ℕ) → 1 ≤ m
     → (k : ℕ) × ((faces s : ℕ) (opponent : Strategy) → IsStrategyOf q Min opponent → s < states q →
     unit * m * avoid q faces (by_plan q plan) opponent k s ≤ (m * table s + unit) * (faces * denominator q.game) ^ k)
 
--- the k-step values are what the maximiser can be sure of, and what the minimiser can hold it to, whatever the other
--- does
+-- The maximiser can be sure of the k-step values, and the minimiser can hold the maximiser to them, whatever the other
+-- does.
 pub record AreBest (q : Query) (k : ℕ) : Type 0 where
   pub greatest : Strategy
   pub is_greatest : IsStrategyOf q Max greatest

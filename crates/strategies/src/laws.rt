@@ -1,4 +1,4 @@
-//! Laws of strategies, for every question.
+//! This module has the laws of strategies, for every question.
 
 mod best;
 mod ending;

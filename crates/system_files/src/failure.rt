@@ -1,4 +1,4 @@
-//! Why a call of the system failed, as a person reads it.
+//! This module says why a call of the system failed, in words that a person reads.
 
 ghost use Rattle.std.specs.Prelude.{◌≡◌};
 ghost use Rattle.std.specs.IoError.{error_kind};
@@ -6,21 +6,21 @@ ghost use Rattle.std.specs.IoError.{error_kind};
 use std::fmt::{self, Display, Formatter};
 use std::io::{self, ErrorKind};
 
-/// Why a call failed: what the system gave as its reason, or words of this crate's own.
+/// This says why a call failed: it holds the reason that the system gave, or words of this crate's own.
 #[derive(Clone, Copy, Debug, Drop)]
 pub struct Failure {
     error: io::Error,
 }
 
 impl Failure {
-    /// The reason of a failed call.
+    /// Keeps the reason of a failed call.
     pub fn of(error: &io::Error) -> Failure
         ensures { result.error ≡ error.now }
     {
         Failure { error: *error }
     }
 
-    /// A failure of this kind.
+    /// Makes a failure of this kind.
     pub fn of_kind(kind: ErrorKind) -> Failure
         ensures { error_kind result.error ≡ kind }
     {
@@ -29,7 +29,7 @@ impl Failure {
         }
     }
 
-    /// A text is asked for once more that may be gone, as that of a pipe.
+    /// Makes the failure for a text that is asked for once more but may be gone, such as that of a pipe.
     pub fn read_twice() -> Failure
         ensures { error_kind result.error ≡ ErrorKind.Other }
     {

@@ -1,4 +1,4 @@
-//! Real files, as a shelf.
+//! This module offers real files as a shelf.
 
 ghost use Rattle.std.specs.Prelude.{◌≡◌, None, false, option_map};
 ghost use Rattle.std.specs.String.{string_bytes};
@@ -10,7 +10,7 @@ use std::fs::{self, File};
 use std::io::Read;
 use std::rt::Files;
 
-/// Files, under their paths. It tells nothing of what they hold but the number of bytes taken.
+/// The shelf holds files under their paths. Of their contents it tells only the number of bytes taken.
 #[derive(Drop)]
 pub struct FileShelf<'a, R: Files> {
     rt: &'a R,
@@ -23,7 +23,7 @@ pub struct FileShelf<'a, R: Files> {
 }
 
 impl<'a, R: Files> FileShelf<'a, R> {
-    /// A shelf on which no file is begun.
+    /// Makes a shelf on which no file is begun.
     pub fn new(rt: &'a R, alloc: Global) -> Self
         ensures name { result.name ≡ None }
         ensures failure { result.failure ≡ None }
@@ -41,7 +41,7 @@ impl<'a, R: Files> FileShelf<'a, R> {
         }
     }
 
-    /// The name of the file that was begun last, unless memory was wanting for it.
+    /// Returns the name of the file that was begun last, unless memory ran out for it.
     pub fn name(&self) -> Option<&str>
         ensures { option_map (λ name. name.now) result ≡ option_map string_bytes self.now.name }
     {
@@ -51,7 +51,7 @@ impl<'a, R: Files> FileShelf<'a, R> {
         }
     }
 
-    /// Why the last call that failed did so.
+    /// Says why the last call that failed did so.
     pub fn failure(&self) -> Option<Failure>
         ensures { result ≡ self.now.failure }
     {
@@ -59,7 +59,8 @@ impl<'a, R: Files> FileShelf<'a, R> {
     }
 }
 
-// The file of this name, open. One that was read before has to be regular: the text of another, as a pipe, may be gone.
+// Opens the file of this name. A file that was read just before has to be regular, because the text of another one,
+// such as a pipe, may be gone.
 fn open<R: Files>(rt: &R, name: &str, again: bool) -> Result<R::File, Failure> {
     if again && !is_regular(rt, name) {
         return Err(Failure::read_twice());
@@ -70,7 +71,7 @@ fn open<R: Files>(rt: &R, name: &str, again: bool) -> Result<R::File, Failure> {
     }
 }
 
-// Whether a name is that of a regular file, as far as the system tells.
+// Returns whether a name is that of a regular file, as far as the system tells.
 fn is_regular(rt: &impl Files, name: &str) -> bool {
     match fs::metadata(rt, name) {
         Ok(metadata) => metadata.is_file(),

@@ -1,8 +1,8 @@
-//! Names on one line.
+//! This module writes names on one line.
 
 use std::fmt::{self, Display, Formatter, Write};
 
-/// A text on one line: a control character, as a line end, is told as Rust spells it.
+/// A text is written on one line: a control character, such as a line end, is told as Rust spells it.
 #[derive(Clone, Copy, Debug)]
 pub struct OneLine<'a>(pub &'a str);
 

@@ -1,4 +1,4 @@
-//! A real writer, as a sink.
+//! This module offers a real writer as a sink.
 
 ghost use Rattle.std.specs.Prelude.{◌≡◌, None};
 
@@ -6,7 +6,7 @@ use crate::failure::Failure;
 use game_outside::{Failed, Sink};
 use std::io::{ErrorKind, Write};
 
-/// A writer, as a sink that tells nothing.
+/// The sink writes to a writer and tells nothing of the bytes.
 #[derive(Drop)]
 pub struct OutSink<W: Write> {
     writer: W,
@@ -15,7 +15,7 @@ pub struct OutSink<W: Write> {
 }
 
 impl<W: Write> OutSink<W> {
-    /// The sink over this writer.
+    /// Makes the sink over this writer.
     pub fn new(writer: W) -> Self
         ensures writer { result.writer ≡ writer }
         ensures failure { result.failure ≡ None }
@@ -28,7 +28,7 @@ impl<W: Write> OutSink<W> {
         }
     }
 
-    /// Why the last call that failed did so.
+    /// Says why the last call that failed did so.
     pub fn failure(&self) -> Option<Failure>
         ensures { result ≡ self.now.failure }
     {

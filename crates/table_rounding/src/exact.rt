@@ -1,4 +1,4 @@
-//! Exact steps: what choices give by a table, in 128 bits.
+//! This module takes exact steps: it finds what choices give by a table, in 128 bits.
 
 ghost use Rattle.std.specs.Prelude.{◌≡◌, ◌<◌, ◌⊎◌, length};
 ghost use Rattle.game_model.specs.Game.{choices_of};
@@ -8,8 +8,9 @@ use crate::table::UnitTable;
 use float_games::Bound;
 use game_model::{Question, Row, Side, UNIT};
 
-/// What a choice gives by a table, against an entry of its state: the sums of the weights that lead to other states,
-/// times by how much their entries are above this one, and below it; and the sum of these weights.
+/// An excess compares what a choice gives by a table with an entry of its state. `moving` is the sum of the weights
+/// that lead to other states. `above` and `below` are the sums of these weights times how far the entries of those
+/// states are above this entry, or below it.
 #[derive(Clone, Copy)]
 struct Excess {
     above: u128,
@@ -18,7 +19,7 @@ struct Excess {
 }
 
 impl Excess {
-    /// With one more edge.
+    /// Returns the excess with one more edge.
     fn with(self, weight: u128, there: u64, own: u64) -> Excess {
         let up = u128::from(there.saturating_sub(own));
         let down = u128::from(own.saturating_sub(there));
@@ -29,18 +30,18 @@ impl Excess {
         }
     }
 
-    /// By how many units the entry is above what the choice gives, rounded up.
+    /// Returns by how many units the entry is above what the choice gives, rounded up.
     fn fall(self) -> u64 {
         quotient_up(self.below.saturating_sub(self.above), self.moving)
     }
 
-    /// By how many units the entry is below what the choice gives, rounded up.
+    /// Returns by how many units the entry is below what the choice gives, rounded up.
     fn rise(self) -> u64 {
         quotient_up(self.above.saturating_sub(self.below), self.moving)
     }
 }
 
-/// A quotient rounded up. Mostly there is nothing to divide.
+/// Returns a quotient rounded up. Mostly there is nothing to divide.
 fn quotient_up(sum: u128, total: u128) -> u64 {
     if sum == 0 {
         return 0;
@@ -48,7 +49,7 @@ fn quotient_up(sum: u128, total: u128) -> u64 {
     Divided::of(sum, total).rounded(Bound::Upper)
 }
 
-/// The whole part of a quotient, and whether it has a rest.
+/// This is the whole part of a quotient, and whether it has a rest.
 #[derive(Clone, Copy)]
 struct Divided {
     whole: u64,
@@ -56,8 +57,8 @@ struct Divided {
 }
 
 impl Divided {
-    /// A quotient; 0 where the divisor is 0, and the unit where it is beyond 64 bits. By 1, as in a choice of one edge
-    /// of weight 1, nothing is divided.
+    /// Divides. The quotient is 0 if the divisor is 0, and the unit if it is beyond 64 bits. A divisor of 1, as in a
+    /// choice of one edge of weight 1, needs no division.
     fn of(sum: u128, total: u128) -> Divided {
         if total <= 1 {
             let whole = if total == 0 { 0 } else { sum };
@@ -78,7 +79,7 @@ impl Divided {
         }
     }
 
-    /// Rounded for a bound: down for a lower one, else up.
+    /// Rounds down for a lower bound, and up for an upper one.
     fn rounded(self, bound: Bound) -> u64 {
         if bound == Bound::Upper && self.has_rest {
             self.whole.saturating_add(1)
@@ -91,7 +92,7 @@ impl Divided {
 /// Totals below this, times the unit, fit 64 bits.
 const SMALL: u128 = 16_384;
 
-/// What a choice of a state gives, against this entry. Edges to the state itself are left out.
+/// Returns what a choice of a state gives, compared with this entry. Edges to the state itself are left out.
 fn excess_of(row: &Row<'_>, entries: &[u64], state: u32, choice: u32, own: u64) -> Excess
     requires { choice < length row.now }
 {
@@ -117,7 +118,7 @@ fn excess_of(row: &Row<'_>, entries: &[u64], state: u32, choice: u32, own: u64) 
     excess
 }
 
-/// The same over weights of 64 bits.
+/// Returns the same for weights of 64 bits.
 fn narrow_excess(
     successors: &[u32],
     weights: &[u64],
@@ -138,7 +139,7 @@ fn narrow_excess(
     excess
 }
 
-/// The same where all sums fit 64 bits.
+/// Returns the same if all sums fit 64 bits.
 fn small_excess(
     successors: &[u32],
     weights: &[u64],
@@ -163,7 +164,7 @@ fn small_excess(
     }
 }
 
-/// The side whose planned choice a bound goes by.
+/// Returns the side whose planned choice a bound goes by.
 fn planner(bound: Bound) -> Side {
     match bound {
         Bound::Lower => Side::Max,
@@ -171,8 +172,8 @@ fn planner(bound: Bound) -> Side {
     }
 }
 
-/// The entry up to which, or from which on, that of a state holds, where the side of the bound plays this choice: the
-/// same where it holds, else the next one that does by the entries of the other states.
+/// Returns the entry of a state if it holds when the side of the bound plays this choice. Else it returns the next
+/// entry that holds by the entries of the other states.
 pub(crate) fn held_entry(
     question: &Question,
     table: &UnitTable,
@@ -203,17 +204,18 @@ pub(crate) fn held_entry(
     }
 }
 
-/// An entry of a state, and the choice that it comes from.
+/// An entry of a state comes with the choice that gives it.
 #[derive(Clone, Copy, Debug, PartialEq, Eq)]
 pub struct Entry {
-    /// The entry, in units.
+    /// This is the entry, in units.
     pub value: u64,
-    /// The choice.
+    /// This is the choice.
     pub choice: u32,
 }
 
-/// The entry of a state that leads to no other state of its component: what its best choice gives by the table, rounded
-/// down or up. A choice that leads only back to the state counts for nothing. Where there is no other, the entry is 0.
+/// Returns the entry of a state that leads to no other state of its component: what its best choice gives by the table,
+/// rounded down or up. A choice that leads only back to the state counts for nothing. If there is no other, the entry
+/// is 0.
 pub fn single_entry(question: &Question, table: &UnitTable, bound: Bound, state: u32) -> Entry
     requires { state < states question.now }
     ensures { result.choice < length (choices_of question.now.game state) }
@@ -235,7 +237,7 @@ pub fn single_entry(question: &Question, table: &UnitTable, bound: Bound, state:
     })
 }
 
-/// The better entry for a side, the first one of equal ones.
+/// Returns the better entry for a side, the first one of equal ones.
 fn better(side: Side, best: Option<Entry>, other: Entry) -> Entry
     ensures { (result ≡ other) ⊎ (best ≡ Some result) }
 {

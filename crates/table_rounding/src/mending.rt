@@ -1,4 +1,4 @@
-//! Mending a table by exact steps.
+//! This module mends a table by exact steps.
 
 ghost use Rattle.std.specs.Prelude.{◌≡◌, ◌<◌, length};
 ghost use Rattle.game_model.specs.Query.{states};
@@ -10,7 +10,7 @@ use game_outside::OutOfMemory;
 use std::alloc::Global;
 use std::collections::VecDeque;
 
-/// The places of the states of a component whose entries may no longer hold, each once; and which of them wait.
+/// The marks show the places in a component whose entries may no longer hold. Those that wait are listed, each once.
 #[derive(Drop)]
 struct Agenda {
     waiting: VecDeque<u32>,
@@ -18,7 +18,7 @@ struct Agenda {
 }
 
 impl Agenda {
-    /// Of so many states, all of which are marked and none waits: they are looked at one after another first.
+    /// Marks this many places, none of which waits, because all are looked at first, one after another.
     fn new(alloc: Global, members: usize) -> Result<Agenda, OutOfMemory> {
         Ok(Agenda {
             waiting: VecDeque::new(alloc),
@@ -33,7 +33,7 @@ impl Agenda {
         }
     }
 
-    /// Lets the state at this place wait, if it does not.
+    /// Lets the state at this place wait if it does not.
     fn add(&mut self, place: u32) -> Result<(), OutOfMemory> {
         let Some(mark) = self.marks.get_mut(place as usize) else {
             return Ok(());
@@ -46,8 +46,8 @@ impl Agenda {
     }
 }
 
-/// Takes exact steps at the states of a component until each entry holds. False where that takes more of them than
-/// this, beyond one a state.
+/// Takes exact steps at the states of a component until each entry holds. Returns false if that takes more than this
+/// many steps beyond one for each state.
 pub(crate) fn mend(
     alloc: Global,
     setting: &Setting<'_, '_>,
@@ -77,7 +77,7 @@ pub(crate) fn mend(
     Ok(agenda.waiting.is_empty())
 }
 
-/// Takes an exact step at a state. Where its entry moves, the states that lead to it wait.
+/// Takes an exact step at a state. If its entry moves, the states that lead to it wait.
 fn mend_state(
     setting: &Setting<'_, '_>,
     planned: &[u32],

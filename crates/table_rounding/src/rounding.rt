@@ -1,4 +1,4 @@
-//! Rounding values: settled in floating point, and mended.
+//! This module rounds values: they are settled in floating point, and mended.
 
 ghost use Rattle.std.specs.Prelude.{◌≡◌, ◌<◌, IfOk, length, vec_len};
 ghost use Rattle.game_model.specs.Query.{states};
@@ -12,22 +12,23 @@ use game_outside::OutOfMemory;
 use std::alloc::Global;
 use std::num::saturating_f64_to_u64;
 
-/// How much work a try may be.
+/// A try may take this much work.
 #[derive(Clone, Copy)]
 pub struct Effort {
-    /// The most choices that settling looks at.
+    /// Settling looks at no more choices than this.
     pub looks: u64,
-    /// Whether it gives up where four sweeps do not halve what changes.
+    /// If this is set, it gives up when four sweeps do not halve what changes.
     pub is_hasty: bool,
 }
 
-/// The most sweeps of a try.
+/// A try has at most this many sweeps.
 const SWEEPS: u64 = 1_000_000;
 
-/// Values count as settled where at most one in so many nodes changes: the rest is mended.
+/// Values count as settled if at most one in this many nodes changes. The rest is mended.
 const FEW: usize = 2_000;
 
-/// Tries to round values to entries of the component that hold. False where that takes long; entries are then anything.
+/// Tries to round values to entries of the component that hold. It returns false if that takes long, and the entries
+/// are then anything.
 pub(crate) fn try_values(
     alloc: Global,
     setting: &Setting<'_, '_>,
@@ -57,7 +58,7 @@ pub(crate) fn try_values(
     mend(alloc, setting, planned, table, 1_000 + share)
 }
 
-/// The values as whole units, on the side of the bound.
+/// Returns the values as whole units, on the side of the bound.
 fn rounded(alloc: Global, bound: Bound, values: &[f64]) -> Result<Vec<f64>, OutOfMemory>
     ensures { IfOk result (λ list. vec_len list ≡ length values.now) }
 {
@@ -68,7 +69,7 @@ fn rounded(alloc: Global, bound: Bound, values: &[f64]) -> Result<Vec<f64>, OutO
     Ok(list)
 }
 
-/// Takes rounded steps until few values change. False where that takes long.
+/// Takes rounded steps until few values change. Returns false if that takes long.
 fn settle(setting: &Setting<'_, '_>, units: &mut [f64], policy: &[u32], effort: Effort) -> bool
     requires units { length units.old ≡ nodes_of setting.now.game.now }
     requires policy { length policy.now ≡ nodes_of setting.now.game.now }

@@ -1,4 +1,4 @@
-//! What is rounded: a component of a question, and its local game.
+//! This module has what is rounded: a component of a question, and its local game.
 
 ghost use Rattle.std.specs.Prelude.{◌≡◌, ◌+◌, ◌<◌, length};
 ghost use Rattle.game_model.specs.Query.{states};
@@ -9,22 +9,22 @@ use float_games::{Bound, FloatGame};
 use game_model::Question;
 use predecessors::Predecessors;
 
-/// A component of a question, and the local game that its values come from.
+/// A component of a question comes with the local game that its values come from.
 #[derive(Drop)]
 pub struct Setting<'a, 'q> {
-    /// The question.
+    /// This is the question.
     pub question: &'a Question<'q>,
-    /// The predecessors in its game.
+    /// These are the predecessors in its game.
     pub predecessors: &'a Predecessors,
-    /// Its components.
+    /// These are its components.
     pub components: &'a Components,
-    /// The component.
+    /// This is the component.
     pub component: u32,
-    /// The local game. For a lower table the mark of a choice is its place among the choices of its state.
+    /// This is the local game. For a lower table the mark of a choice is its place among the choices of its state.
     pub game: &'a FloatGame,
-    /// For each member of the component its node in the local game.
+    /// Each member of the component has this node in the local game.
     pub nodes: &'a [u32],
-    /// Which bound is rounded.
+    /// This bound is rounded.
     pub bound: Bound,
     ghost predecessors_all: { length predecessors.now ≡ states question.now },
     ghost components_all: { states_of components.now ≡ states question.now },

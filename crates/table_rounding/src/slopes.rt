@@ -1,4 +1,4 @@
-//! Tries, one after another: the values themselves, then values that are moved away.
+//! This module makes tries, one after another: with the values themselves, and then with values that are moved away.
 
 ghost use Rattle.std.specs.Prelude.{◌≡◌, ◌<◌, IfOk, length, vec_len};
 ghost use Rattle.game_model.specs.Query.{states};
@@ -13,30 +13,32 @@ use game_outside::OutOfMemory;
 use local_values::{find_slide, solve};
 use std::alloc::Global;
 
-/// Values of more nodes than this are not tried as they are.
+/// Values of more nodes than this are not tried before they are moved.
 const MOST_BOLD: usize = 5_000;
 
-/// Of more nodes than this the first try gives up soon, and tries are few.
+/// With more nodes than this the first try gives up soon, and values are brought nearer in greater steps.
 const MANY: usize = 1_000;
 
-/// How many units a move takes: a little more than rounding does.
+/// A move takes this many units, which is a little more than rounding takes.
 const SLOPE: f64 = 1.25;
 
-/// The first cost of a move, in units, and by what it grows from try to try.
+/// A move costs this many units in the first try. The next constants say by which factor that grows from try to try,
+/// and how many tries there are.
 const COST: f64 = 1.5;
 
 const COST_GROWTH: f64 = 8.0;
 
 const COSTS: u32 = 4;
 
-/// Values of few nodes are not brought nearer by less than this many units, and others by less than the next number.
+/// Values of few nodes are not brought nearer by less than this many units, and others not by less than the next
+/// number.
 const NEAR_OF_FEW: f64 = 10.0;
 
 const NEAR: f64 = 200.0;
 
 /// Rounds values of a component to entries that hold. The maximiser's choices of a lower table are planned by the
-/// policy, and by the one of other values where these are what is rounded. False where nothing holds soon: the entries
-/// are then 0, or the unit in an upper table. The only error is want of memory.
+/// policy, and by that of other values if these are rounded. It returns false if nothing holds soon, and the entries
+/// are then 0, or the unit in an upper table. The only error is that memory ran out.
 pub fn round_component(
     alloc: Global,
     setting: &Setting<'_, '_>,
@@ -77,8 +79,8 @@ pub fn round_component(
     Ok(true)
 }
 
-/// How a try of values that are moved away ended: it failed, or entries hold, of which some may have stopped at the end
-/// of their room.
+/// A try of values that are moved away failed, or its entries hold. Some of these may have stopped at the end of their
+/// room.
 #[derive(Clone, Copy, PartialEq, Eq)]
 enum Slope {
     Failed,
@@ -86,7 +88,7 @@ enum Slope {
     HeldPastStops,
 }
 
-/// Whether entries are in all nearer to the values than others.
+/// Returns whether the sum of entries is nearer to the values than that of others.
 fn is_nearer(bound: Bound, entries: &[u64], others: &[u64]) -> bool {
     match bound {
         Bound::Lower => sum_of(entries) > sum_of(others),
@@ -94,7 +96,7 @@ fn is_nearer(bound: Bound, entries: &[u64], others: &[u64]) -> bool {
     }
 }
 
-/// The sum of entries.
+/// Returns the sum of entries.
 fn sum_of(entries: &[u64]) -> u128 {
     let mut sum: u128 = 0;
     for entry in entries {
@@ -103,8 +105,8 @@ fn sum_of(entries: &[u64]) -> u128 {
     sum
 }
 
-/// Plans the maximiser's choices of a lower table by a policy. Those of an upper table are the minimiser's, whose
-/// replies the local game has alone.
+/// Plans the maximiser's choices of a lower table by a policy. An upper table has choices of the minimiser, and the
+/// local game has only its replies.
 fn plan(setting: &Setting<'_, '_>, policy: &[u32], planned: &mut [u32])
     requires { length planned.old ≡ states setting.now.question.now }
 {
@@ -124,7 +126,7 @@ fn plan(setting: &Setting<'_, '_>, policy: &[u32], planned: &mut [u32])
     }
 }
 
-/// How much work a sweep is: the choices that it looks at, of both sides more.
+/// Returns about how many choices a sweep looks at, which are more if the game has nodes of both sides.
 fn sweep_work(setting: &Setting<'_, '_>) -> u64 {
     let both = if setting.game.has_both_sides() {
         setting.game.edges() as u64 / 3
@@ -134,7 +136,7 @@ fn sweep_work(setting: &Setting<'_, '_>) -> u64 {
     (setting.game.nodes() as u64).saturating_add(both)
 }
 
-/// The effort of the try of the values themselves.
+/// Returns the effort of the try of the values themselves.
 fn bold_effort(setting: &Setting<'_, '_>) -> Effort {
     Effort {
         looks: sweep_work(setting).saturating_mul(12).saturating_add(7_000),
@@ -142,7 +144,7 @@ fn bold_effort(setting: &Setting<'_, '_>) -> Effort {
     }
 }
 
-/// The effort of other tries.
+/// Returns the effort of other tries.
 fn full_effort(setting: &Setting<'_, '_>) -> Effort {
     Effort {
         looks: sweep_work(setting)
@@ -199,7 +201,7 @@ fn try_slope(
     })
 }
 
-/// How far each value can be moved away.
+/// Returns how far each value can be moved away.
 fn rooms_of(
     alloc: Global,
     setting: &Setting<'_, '_>,
@@ -216,7 +218,7 @@ fn rooms_of(
     Ok(list)
 }
 
-/// Tries values that are found anew where each move costs some units, and more from try to try.
+/// Tries values that are found anew when each move costs some units, and more from try to try.
 fn try_costs(
     alloc: Global,
     setting: &Setting<'_, '_>,
@@ -242,7 +244,7 @@ fn try_costs(
     Ok(false)
 }
 
-/// Tries values that are found anew where each move costs so many units.
+/// Tries values that are found anew when each move costs this many units.
 fn try_cost(
     alloc: Global,
     setting: &Setting<'_, '_>,
@@ -275,7 +277,7 @@ fn try_cost(
     Ok(true)
 }
 
-/// The values, moved by a multiple of how far others are.
+/// Returns the values, each moved by a multiple of the entry of `away`.
 fn between(alloc: Global, values: &[f64], away: &[f64], part: f64) -> Result<Vec<f64>, OutOfMemory>
     ensures { IfOk result (λ list. vec_len list ≡ length values.now) }
 {
@@ -291,7 +293,7 @@ fn add_multiple(values: &mut [f64], factor: f64, others: &[f64]) {
     }
 }
 
-/// Brings entries that hold, rounded from values that are moved all the way, nearer by halves.
+/// Brings entries that hold nearer by halves. They were rounded from values that are moved all the way.
 fn narrow(
     alloc: Global,
     setting: &Setting<'_, '_>,
@@ -334,7 +336,8 @@ fn narrow(
     Ok(())
 }
 
-/// By how many units values are brought nearer at least: a try of few nodes takes little.
+/// Returns by how many units values are brought nearer at least. This is less for few nodes, because a try then takes
+/// little.
 fn least_step(setting: &Setting<'_, '_>) -> f64 {
     if setting.game.nodes() <= MANY {
         NEAR_OF_FEW
@@ -343,7 +346,7 @@ fn least_step(setting: &Setting<'_, '_>) -> f64 {
     }
 }
 
-/// How many times entries are brought nearer: seldom where a try takes long.
+/// Returns how many times entries are brought nearer. These are few if a try takes long.
 fn halves(setting: &Setting<'_, '_>) -> u32 {
     if setting.game.nodes() < 100_000 {
         14
@@ -352,13 +355,13 @@ fn halves(setting: &Setting<'_, '_>) -> u32 {
     }
 }
 
-/// The greatest size of an entry.
+/// Returns the greatest size of an entry.
 fn widest(list: &[f64]) -> f64 {
     list.iter()
         .fold(0.0, |most, x| if x.abs() > most { x.abs() } else { most })
 }
 
-/// The entries of the members of the component.
+/// Returns the entries of the members of the component.
 fn entries_of(
     alloc: Global,
     setting: &Setting<'_, '_>,

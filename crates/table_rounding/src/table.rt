@@ -1,4 +1,4 @@
-//! A table of units.
+//! This module has a table of units.
 
 ghost use Rattle.std.specs.Prelude.{◌≡◌, ◌<◌, ◌≤◌, IfOk, All, length, min, replicate, slice_index, slice_set};
 ghost use Rattle.game_model.specs.Limits.{unit};
@@ -8,7 +8,7 @@ use game_outside::OutOfMemory;
 use std::alloc::Global;
 use std::marker::Model;
 
-/// For each state a value in units, from 0 to 10^15.
+/// A table gives each state a value in units, from 0 to 10^15.
 #[derive(Drop)]
 pub struct UnitTable {
     entries: Vec<u64>,
@@ -26,7 +26,7 @@ impl Model for UnitTable {
 }
 
 impl UnitTable {
-    /// The table whose entries are all 0.
+    /// Returns the table whose entries are all 0.
     pub fn zeros(alloc: Global, states: u32) -> Result<UnitTable, OutOfMemory>
         ensures { IfOk result (λ t. t ≡ replicate states 0) }
     {
@@ -34,21 +34,21 @@ impl UnitTable {
         Ok(UnitTable { entries })
     }
 
-    /// Tells a proof what every table keeps. It does nothing.
+    /// Tells a proof what holds for every table. It does nothing.
     pub fn known(&self)
         ensures { All (λ v. v ≤ unit) self.now }
     {
         let _ = &self.entries;
     }
 
-    /// The entries.
+    /// Returns the entries.
     pub fn entries(&self) -> &[u64]
         ensures { result.now ≡ self.now }
     {
         &self.entries
     }
 
-    /// The entry of a state.
+    /// Returns the entry of a state.
     pub fn get(&self, state: u32) -> u64
         requires { state < length self.now }
         ensures value { result ≡ slice_index self.now state }
@@ -57,7 +57,7 @@ impl UnitTable {
         self.entries[state as usize]
     }
 
-    /// Gives a state this value, or the unit where it is more.
+    /// Gives a state this value, or the unit if the value is more.
     pub fn set(&mut self, state: u32, value: u64)
         requires { state < length self.old }
         ensures { self.new ≡ slice_set self.old state (min value unit) }
@@ -65,7 +65,7 @@ impl UnitTable {
         self.entries[state as usize] = value.min(UNIT);
     }
 
-    /// The list of the entries.
+    /// Returns the list of the entries.
     pub fn into_entries(self) -> Vec<u64>
         ensures list { result.items ≡ self }
         ensures units { All (λ v. v ≤ unit) result.items }

@@ -1,4 +1,4 @@
-//! A worked audit.
+//! This is a worked audit.
 
 use certificate_audit::{AuditFault, audit};
 use game_model::{Question, Side};
@@ -21,7 +21,7 @@ fn answer(
     Ok(audit(alloc, question, text))
 }
 
-// What the audit of a text says of a minimiser at the goal or the sink.
+// Returns what the audit of a text says if the minimiser chooses between the goal and the sink.
 fn sink_answer(alloc: Global, text: &[u8]) -> Result<Result<Plan, AuditFault>, Fail> {
     let game = goal_or_sink(alloc)?;
     let question = question_of(alloc, &game, Side::Min, 1)?;
@@ -32,7 +32,7 @@ fn at_upper(state: u32, cause: UpperCause) -> AuditFault {
     AuditFault::Upper(UpperFault { state, cause })
 }
 
-// The minimiser goes from state 0 to the sink, not to the goal.
+// The minimiser goes from state 0 to the sink and not to the goal.
 #[test]
 fn a_reply_that_is_not_held_is_refused(rt: HostRuntime) -> Result<(), Fail> {
     let held = b"certificate 2 3\n\

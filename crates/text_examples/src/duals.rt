@@ -1,4 +1,4 @@
-//! Duals of formulas, printed.
+//! Duals of formulas are printed.
 
 ghost use Rattle.std.specs.Prelude.{◌≡◌, ◌↔◌, ◌≤◌, IfOk, IsTrue};
 ghost use Rattle.formula_reader.specs.declared.formula.PathKind.TheVariants.{Always};
@@ -10,7 +10,7 @@ use sample_games::expectations::same;
 use std::alloc::Global;
 use std::test::Fail;
 
-// Formulas, each with the spelling of its dual.
+// Each formula is given with the spelling of its dual.
 const DUALS: &[(&str, &str)] = &[
     ("P>=0.25 [ G \"a\" ]", "P<=3/4 [ F !\"a\" ]"),
     (
@@ -19,7 +19,7 @@ const DUALS: &[(&str, &str)] = &[
     ),
 ];
 
-// Whether a share is at most 1.
+// Returns whether a share is at most 1.
 fn is_part(share: &Frac) -> bool
     ensures { IsTrue result ↔ (share.now.num ≤ share.now.den) }
 {
@@ -38,7 +38,7 @@ fn is_at_most_one(bound: &Bound) -> bool
     }
 }
 
-// The formula with `G` that a text spells.
+// Reads the formula with `G` that a text spells.
 fn always_formula(alloc: Global, text: &str) -> Result<Formula, Fail>
     ensures { IfOk result (λ formula. formula.kind ≡ Always × IsAtMostOne formula.bound) }
 {
@@ -49,13 +49,13 @@ fn always_formula(alloc: Global, text: &str) -> Result<Formula, Fail>
     Ok(formula)
 }
 
-// The dual of the formula that a text spells.
+// Makes the dual of the formula that a text spells.
 fn dual_of(alloc: Global, text: &str) -> Result<Formula, Fail> {
     let formula = always_formula(alloc, text)?;
     Ok(dual(alloc, &formula)?)
 }
 
-// The spelling of the dual of the formula that a text spells.
+// Spells the dual of the formula that a text spells.
 fn dual_spelling(alloc: Global, text: &str) -> Result<Vec<u8>, Fail> {
     let other = dual_of(alloc, text)?;
     Ok(print_formula(alloc, &other)?)

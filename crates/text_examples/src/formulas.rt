@@ -1,11 +1,11 @@
-//! Formulas as texts: what is read, how it is printed, and a fault with its place.
+//! Formulas are texts. These tests say what is read, how it is printed, and that a fault has its place.
 
 use rpatl_syntax::{FormulaCause, FormulaFault, print_formula, read_formula};
 use sample_games::expectations::same;
 use std::alloc::Global;
 use std::test::Fail;
 
-// Formulas, each with its spelling.
+// Each formula is given with its spelling.
 const SPELLED: &[(&str, &str)] = &[
     (
         "<< a , b , a >> Pmin =? [ F \"a\" ]",

@@ -1,4 +1,4 @@
-//! Small files, read whole.
+//! Small label and owner files are read whole.
 
 ghost use Rattle.std.specs.Prelude.{◌≡◌, IfOk, length};
 
@@ -8,7 +8,7 @@ use std::alloc::Global;
 use std::test::Fail;
 use text_lines::MOST_BYTES;
 
-// The labels of three states in a text.
+// Reads the labels of three states from a text.
 fn labels_of(alloc: Global, text: &[u8]) -> Result<Labels, Fail>
     ensures { IfOk result (λ labels. labels.states ≡ 3) }
 {
@@ -51,7 +51,7 @@ fn is_refused(alloc: Global, text: &[u8], line: u32, cause: LabCause) -> Result<
     same("fault", fault, Some(LabFault { line, cause }))
 }
 
-// The owners of three states in a text.
+// Reads the owners of three states from a text.
 fn owners_of(alloc: Global, text: &[u8]) -> Result<Owners, Fail>
     ensures { IfOk result (λ owners. length owners.owners ≡ 3) }
 {
@@ -61,7 +61,7 @@ fn owners_of(alloc: Global, text: &[u8]) -> Result<Owners, Fail>
     Ok(read_owners(alloc, text, 3)?)
 }
 
-// One player has all states.
+// One player owns all states.
 fn one_owns_all(alloc: Global) -> Result<(), Fail> {
     let owners = Owners::single(alloc, 3)?;
     same("the only owner", owners.owner(2), b"p0".as_slice())

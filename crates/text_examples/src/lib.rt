@@ -1,7 +1,8 @@
-//! A worked example of each call that reads or writes texts: shelves and sinks, numbers, transition, label and owner
-//! files, values, certificates, words, formulas, questions and verdicts; and gates that give up.
+//! These are worked examples of each call that reads or writes texts: shelves and sinks, numbers, transition, label and
+//! owner files, values, certificates, words, formulas, questions and verdicts. There are also examples of gates that
+//! give up.
 //!
-//! They stand over these crates, since a test in a crate proves that crate once more.
+//! The examples are in a crate above these crates, because a test in a crate proves that crate once more.
 #![tactic(auto)]
 
 #[cfg(test)]

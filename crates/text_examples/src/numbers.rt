@@ -1,4 +1,4 @@
-//! Numbers, fractions and the choices that they make.
+//! These tests are of numbers, fractions and the choices that they make.
 
 use distributions::{NumberFault, Part, compare, make_choice, read_number};
 use sample_games::expectations::same;

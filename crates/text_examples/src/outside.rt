@@ -1,4 +1,4 @@
-//! Whole texts over shelves and sinks in memory.
+//! Whole texts are read from shelves and written to sinks in memory.
 
 use game_outside::{
     Gate, HeldFile, HoldGate, LateGate, MemShelf, MemSink, Name, ReadEnd, Shelf, SteadyShelf,
@@ -8,10 +8,10 @@ use sample_games::expectations::{holds, same};
 use std::alloc::{AllocError, Global};
 use std::test::Fail;
 
-/// How many turns the gates of these tests hold a worker.
+/// The gates of these tests hold a worker for this many turns.
 const FEW_TURNS: u32 = 10;
 
-// The two texts that each test holds.
+// Makes the two texts that each test holds.
 fn files(alloc: Global) -> Result<Vec<HeldFile>, AllocError> {
     let mut files = Vec::new(alloc);
     files.push(held(alloc, b"m.tra", b"hello, world")?)?;
@@ -27,7 +27,7 @@ fn held(alloc: Global, name: &[u8], bytes: &[u8]) -> Result<HeldFile, AllocError
     }
 }
 
-// A shelf gives this of the text under a name, within a limit.
+// A shelf gives this for the text under a name, within a limit.
 fn gives<H: Shelf>(
     alloc: Global,
     shelf: &mut H,
@@ -54,7 +54,7 @@ fn a_steady_shelf_gives_all(rt: HostRuntime) -> Result<(), Fail> {
 fn a_shelf_gives_pieces_and_fails_where_named(rt: HostRuntime) -> Result<(), Fail> {
     let alloc = rt.alloc();
     let mut shelf = MemShelf::new(files(alloc)?, 5, vec![in alloc; 8]?);
-    // Calls 1 to 5: `begin`, pieces of 5, 5 and 2 bytes, and the end.
+    // Calls 1 to 5 are `begin`, pieces of 5, 5 and 2 bytes, and the end.
     gives(alloc, &mut shelf, "m.tra", 100, Ok(b"hello, world"))?;
     // Call 7 gives a piece, and call 8 fails.
     gives(alloc, &mut shelf, "m.lab", 100, Err(ReadEnd::ReadFault))?;

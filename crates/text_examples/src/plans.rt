@@ -1,4 +1,4 @@
-//! Certificates, read whole.
+//! Certificates are read whole.
 
 use plan_text::{Plan, PlanCause, PlanFault, fixed_text, read_plan, write_plan};
 use sample_games::expectations::same;
@@ -6,11 +6,11 @@ use std::alloc::Global;
 use std::test::Fail;
 use text_lines::MOST_BYTES;
 
-// Two lines that stand before each certificate.
+// Two lines come before each certificate.
 const REPORT: &[u8] = b"state 0 lower 0.500000000000000 upper 0.500000000000000 rounds 2 Bracket\n\
     formula Pmax=? [ F \"goal\" ]\n";
 
-// One certificate in three texts.
+// The same certificate is given in three texts.
 const CERTIFICATES: &[&[u8]] = &[
     b"certificate 2 3\n\
         0 0.500000000000000 1 1 0.500000000000001 -\n\
@@ -28,7 +28,7 @@ const CERTIFICATES: &[&[u8]] = &[
         \t002 0.000000000000000 - 0 0.000000000000000 00000000000000000000016383",
 ];
 
-// Reads a certificate of three states behind the report.
+// Reads a certificate of three states that follows the report.
 fn read(alloc: Global, certificate: &[u8]) -> Result<Result<Plan, PlanFault>, Fail> {
     let mut text = Vec::from_slice(alloc, REPORT)?;
     text.extend_from_slice(certificate)?;
@@ -38,7 +38,7 @@ fn read(alloc: Global, certificate: &[u8]) -> Result<Result<Plan, PlanFault>, Fa
     Ok(read_plan(alloc, text.as_slice(), 3))
 }
 
-// The tables of a plan: the lower bounds, the choices, the ranks, the upper bounds and the replies.
+// A plan has five tables: the lower bounds, the choices, the ranks, the upper bounds and the replies.
 type Tables<'a> = (
     &'a [u64],
     &'a [Option<u32>],
@@ -78,7 +78,7 @@ fn a_certificate_is_read(rt: HostRuntime) -> Result<(), Fail> {
     Ok(())
 }
 
-// The values of an old certificate have twelve decimals, and the last one counts a thousand units.
+// The values of an old certificate have twelve decimals, and the last decimal counts a thousand units.
 #[test]
 fn an_old_certificate_is_read(rt: HostRuntime) -> Result<(), Fail> {
     let text = b"certificate 1 3\n\

@@ -1,4 +1,4 @@
-//! What formulas of each kind of path ask.
+//! Formulas of each kind of path ask questions.
 
 ghost use Rattle.std.specs.Prelude.{◌≡◌, ◌↔◌, IfOk, IsTrue, length};
 ghost use Rattle.formula_sets.specs.Posing.{IsUntil};
@@ -15,7 +15,7 @@ use std::alloc::Global;
 use std::test::Fail;
 use text_lines::MOST_BYTES;
 
-// The labels of one state in a text.
+// Reads the labels of one state from a text.
 fn labels_of(alloc: Global, text: &[u8]) -> Result<Labels, Fail>
     ensures { IfOk result (λ labels. labels.states ≡ 1) }
 {
@@ -31,7 +31,7 @@ fn labels_of_one_state(alloc: Global) -> Result<Labels, Fail>
     labels_of(alloc, b"0=\"init\" 1=\"goal\"\n0: 0\n")
 }
 
-// A game of one state, with its labels and owners.
+// A game of one state has its labels and owners.
 #[derive(Drop)]
 struct Setting {
     game: Game,
@@ -63,7 +63,7 @@ fn is_until(kind: PathKind) -> bool
     }
 }
 
-// The formula that a text spells, of a path that poses a question.
+// Reads the formula that a text spells, with `U` or `F` and with no formula inside.
 fn until_formula(alloc: Global, text: &str) -> Result<Formula, Fail>
     ensures { IfOk result (λ formula. IsUntil formula.kind × IsFlat (tree_of formula)) }
 {
@@ -74,7 +74,7 @@ fn until_formula(alloc: Global, text: &str) -> Result<Formula, Fail>
     Ok(formula)
 }
 
-// What such a formula asks of a game of one state.
+// Such a formula asks this of a game of one state.
 fn is_asked(alloc: Global, formula: &Formula) -> Result<(), Fail>
     requires kind { IsUntil formula.now.kind }
     requires flat { IsFlat (tree_of formula.now) }
@@ -104,7 +104,7 @@ fn a_formula_poses_a_question(rt: HostRuntime) -> Result<(), Fail> {
     is_asked(alloc, &formula)
 }
 
-// The formula that a text with `X` spells.
+// Reads the formula that a text with `X` spells.
 fn next_formula(alloc: Global, text: &str) -> Result<Formula, Fail>
     ensures { IfOk result (λ formula. formula.kind ≡ Next × IsFlat (tree_of formula)) }
 {
@@ -115,7 +115,7 @@ fn next_formula(alloc: Global, text: &str) -> Result<Formula, Fail>
     Ok(formula)
 }
 
-// The opening of the question that such a formula poses in a game of one state.
+// Such a formula poses a question with this opening in a game of one state.
 fn has_opening(alloc: Global, formula: &Formula, wanted: &[u64]) -> Result<(), Fail>
     requires kind { formula.now.kind ≡ Next }
     requires flat { IsFlat (tree_of formula.now) }

@@ -1,4 +1,4 @@
-//! Texts and what they are read as, from outside.
+//! Texts are read as games.
 
 use game_model::Game;
 use sample_games::expectations::same;
@@ -9,7 +9,7 @@ use tra_reader::{TraCause, TraFault, read_tra};
 
 const COIN_LOOP: &[u8] = b"3 3 5\n0 0 0 0.5\n0 0 1 0.25\n0 0 2 0.25\n1 0 1 1\n2 0 2 1\n";
 
-// Texts, each with the first choice of its game.
+// Each text is given with the first choice of its game.
 const CHOICES: &[(&[u8], &str)] = &[
     (COIN_LOOP, "4 0:2 1:1 2:1"),
     (
@@ -24,7 +24,7 @@ const CHOICES: &[(&[u8], &str)] = &[
     (b"1 0 0", "1 0:1"),
 ];
 
-// The total of choice 0 of state 0, and its edges with their weights.
+// Writes the total of choice 0 of state 0, and its edges with their weights.
 fn first_choice(alloc: Global, game: &Game) -> Result<String, AllocError> {
     game.known();
     let mut text = format!(in alloc; "{}", game.total(0, 0))?;
@@ -35,7 +35,7 @@ fn first_choice(alloc: Global, game: &Game) -> Result<String, AllocError> {
     Ok(text)
 }
 
-// The game of a text.
+// Reads the game of a text.
 fn game_of(alloc: Global, text: &[u8]) -> Result<Game, Fail> {
     if text.len() > MOST_BYTES {
         return Err(Fail::new("too long"));
@@ -43,7 +43,7 @@ fn game_of(alloc: Global, text: &[u8]) -> Result<Game, Fail> {
     Ok(read_tra(alloc, text)?)
 }
 
-// The first choice of the game of a text.
+// Writes the first choice of the game of a text.
 fn choice_in(alloc: Global, text: &[u8]) -> Result<String, Fail> {
     let game = game_of(alloc, text)?;
     Ok(first_choice(alloc, &game)?)

@@ -1,4 +1,4 @@
-//! Files of values, read whole.
+//! Files of values are read whole.
 
 use sample_games::expectations::same;
 use std::alloc::Global;
@@ -6,7 +6,8 @@ use std::test::Fail;
 use text_lines::MOST_BYTES;
 use values_reader::{ValuesCause, ValuesEnd, ValuesFault, read_values};
 
-// Texts with values of three states. What is above 1 counts as 1, and what is below 0 or no number as 0.
+// Each text has values of three states. A value above 1 counts as 1, and one that is below 0 or is no number counts as
+// 0.
 const READ: [(&str, [f64; 3]); 14] = [
     ("0.5\n1\n0\n", [0.5, 1.0, 0.0]),
     ("\n 0.5\n\n+1.0000001 \r\n\t1e-3\n\n", [0.5, 1.0, 0.001]),
@@ -24,7 +25,7 @@ const READ: [(&str, [f64; 3]); 14] = [
     ("0=nan\n1=9e999\n2=-0.5", [0.0, 1.0, 0.0]),
 ];
 
-// What a text comes to as values of three states.
+// Reads the values of three states from a text.
 fn read(alloc: Global, text: &str) -> Result<Result<Vec<f64>, ValuesEnd>, Fail> {
     let bytes = text.as_bytes();
     if bytes.len() > MOST_BYTES {

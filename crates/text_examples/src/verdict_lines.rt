@@ -1,4 +1,4 @@
-//! Verdicts, when a run may stop, and the lines of a report.
+//! These tests are of verdicts, of when a run may stop, and of the lines of a report.
 
 use distributions::read_number;
 use game_model::UNIT;
@@ -7,7 +7,7 @@ use sample_games::expectations::same;
 use std::test::Fail;
 use verdicts::{How, ReportLine, StopRule, Verdict, report_text, settle};
 
-// Bounds of a value have this verdict under a bound.
+// The bounds of a value have this verdict under a bound.
 fn has_verdict(bound: &Bound, (lower, upper): (u64, u64), wanted: Verdict) -> Result<(), Fail> {
     if lower > UNIT || upper > UNIT {
         return Err(Fail::new("above 1"));

@@ -1,11 +1,11 @@
-//! Words, read whole. A line of a test has words that are parted by one space each.
+//! Words are read whole. A line of a test has words with one space between them.
 
 use command_words::{AuditWords, CheckWords, CommandWords, MakeWords, SolveWords, read_words};
 use sample_games::expectations::same;
 use std::alloc::Global;
 use std::test::Fail;
 
-// The words of a line.
+// Makes the words of a line.
 fn words(alloc: Global, line: &str) -> Result<Vec<String>, Fail> {
     let mut words = Vec::new(alloc);
     for word in line.split(' ') {
@@ -14,7 +14,7 @@ fn words(alloc: Global, line: &str) -> Result<Vec<String>, Fail> {
     Ok(words)
 }
 
-// Lines whose words denote no command.
+// The words of these lines denote no command.
 const REFUSED: &[&str] = &[
     "",
     "made 1 3",
@@ -38,7 +38,7 @@ fn words_denote_no_command(rt: HostRuntime) -> Result<(), Fail> {
     Ok(())
 }
 
-// The check that words ask for.
+// Reads the check that words ask for.
 fn check_in(alloc: Global, words: &[String]) -> Result<CheckWords<'_>, Fail> {
     match read_words(alloc, words)? {
         Some(CommandWords::Check(check)) => Ok(check),
@@ -82,7 +82,7 @@ fn a_check_has_defaults(rt: HostRuntime) -> Result<(), Fail> {
     )
 }
 
-// The audit that words ask for.
+// Reads the audit that words ask for.
 fn audit_in(alloc: Global, words: &[String]) -> Result<AuditWords<'_>, Fail> {
     match read_words(alloc, words)? {
         Some(CommandWords::Audit(audit)) => Ok(audit),
@@ -108,7 +108,7 @@ fn an_audit_says_its_words(rt: HostRuntime) -> Result<(), Fail> {
     )
 }
 
-// The `solve` that words ask for.
+// Reads the `solve` that words ask for.
 fn solve_in(alloc: Global, words: &[String]) -> Result<SolveWords<'_>, Fail> {
     match read_words(alloc, words)? {
         Some(CommandWords::Solve(solve)) => Ok(solve),
@@ -135,7 +135,7 @@ fn a_solve_says_its_words(rt: HostRuntime) -> Result<(), Fail> {
     )
 }
 
-// The `make` that words ask for.
+// Reads the `make` that words ask for.
 fn make_in(alloc: Global, words: &[String]) -> Result<MakeWords, Fail> {
     match read_words(alloc, words)? {
         Some(CommandWords::Make(make)) => Ok(make),

@@ -1,6 +1,7 @@
--- The limit of a text.
+-- This module defines the limit of a text.
 use Rattle.std.specs.Prelude.{ℕ}
 
--- bytes of a text that is read, 256 MiB: a longer one is refused, a certificate before it is looked at
+-- A text that is read has at most this many bytes, 256 MiB. A longer text is refused, and a longer certificate before
+-- it is looked at.
 abbrev pub most_bytes : ℕ
 most_bytes = 268435456

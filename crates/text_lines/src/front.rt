@@ -1,4 +1,4 @@
-//! The first field of a line that is to be a number.
+//! This module reads the first field of a line as a number.
 
 ghost use Rattle.std.specs.Prelude.{◌≡◌, [], MatchOption};
 ghost use Rattle.text_lines.specs.Text.{fields_of};
@@ -8,11 +8,11 @@ ghost use Rattle.text_lines.specs.inside.Digits.{AreDigitsBefore};
 use crate::fields::{at_field_end, behind_blanks, field_length};
 use crate::numbers::whole;
 
-// Behind a number up to this one another digit fits 64 bits.
+// If one more digit follows a number up to this one, the result still fits 64 bits.
 const MOST_SHORT: u64 = 1_000_000_000_000_000_000;
 
-/// What `whole` says of the first field, and the rest of the line, which begins with the blank behind the field. None
-/// where the line has no field. A number of at most 18 digits is read in one pass.
+/// Returns what `whole` says of the first field, and the rest of the line, which begins with the blank after the field.
+/// It returns none if the line has no field. A number of at most 19 digits is read in one pass.
 pub fn first_number(line: &[u8]) -> Option<(Option<u64>, &[u8])>
     ensures { MatchOption result (fields_of line.now ≡ []) (λ r. BeginsWithNumber line.now r.0 r.1.now) }
 {
@@ -28,7 +28,7 @@ pub fn first_number(line: &[u8]) -> Option<(Option<u64>, &[u8])>
     Some((whole(field), rest))
 }
 
-// The number of the digits at the front, as far as 64 bits surely hold it, and what stands behind them.
+// Returns the number of the digits at the front, as many as are sure to fit 64 bits, and the bytes after them.
 fn short_digits(text: &[u8]) -> (u64, &[u8])
     ensures { AreDigitsBefore text.now result.0 result.1.now }
 {

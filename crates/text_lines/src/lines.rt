@@ -1,4 +1,4 @@
-//! The first line of a text.
+//! This module cuts the first line off a text.
 
 ghost use Rattle.std.specs.Prelude.{◌≡◌, ◌<◌, ◌∷◌, [], ◌++◌, ℕ, List, None, length, take, IfSome, MatchOption};
 ghost use Rattle.text_lines.specs.Text.{lines_of, is_nil, significant};
@@ -7,7 +7,7 @@ ghost use Rattle.text_lines.specs.Laws.{HasNo, IsEndOf};
 use crate::fields::is_blank_line;
 use memchr::memchr;
 
-/// The first line without its ending, and what stands behind the ending. None at the end of the text.
+/// Returns the first line without its ending, and the bytes after the ending. It returns none at the end of the text.
 pub fn first_line(text: &[u8]) -> Option<(&[u8], &[u8])>
     ensures lines { MatchOption result (text.now ≡ []) (λ r. lines_of text.now ≡ r.0.now ∷ lines_of r.1.now) }
     ensures shorter { MatchOption result (text.now ≡ []) (λ r. length r.1.now < length text.now) }
@@ -21,8 +21,8 @@ pub fn first_line(text: &[u8]) -> Option<(&[u8], &[u8])>
     Some((text, &[]))
 }
 
-/// The first line that an LF ends, without its ending, and what stands behind the ending. None where no LF stands, and
-/// then these bytes are the front of a line that may go on.
+/// Returns the first line that an LF ends, without its ending, and the bytes after the ending. It returns none if there
+/// is no LF, and then these bytes are the front of a line that may go on.
 #[inline]
 pub fn ended_line(bytes: &[u8]) -> Option<(&[u8], &[u8])>
     ensures line { IfSome result (λ r. (behind : List ℕ) →
@@ -36,7 +36,7 @@ pub fn ended_line(bytes: &[u8]) -> Option<(&[u8], &[u8])>
     Some((without_cr(&bytes[..place]), behind))
 }
 
-/// What stands before an LF, less the CR that may end it: the line that the LF ends.
+/// Returns the line that an LF ends: the bytes before the LF, without the CR that may end them.
 pub fn without_cr(line: &[u8]) -> &[u8]
     requires { HasNo 10 line.now }
     ensures line { (behind : List ℕ) → lines_of (line.now ++ 10 ∷ behind) ≡ result.now ∷ lines_of behind }
@@ -48,7 +48,7 @@ pub fn without_cr(line: &[u8]) -> &[u8]
     }
 }
 
-/// Whether no line of the text has a field. It ends at the first line that has one.
+/// Returns whether no line of the text has a field. It stops at the first line that has one.
 pub fn only_blank(text: &[u8]) -> bool
     ensures { result ≡ is_nil (significant (lines_of text.now)) }
 {

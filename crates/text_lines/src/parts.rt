@@ -1,9 +1,10 @@
-//! The parts of bytes around the first of a byte.
+//! This module parts bytes at the first occurrence of a byte.
 
 ghost use Rattle.std.specs.Prelude.{◌≡◌, ◌==◌, ◌<◌, Some, None, MatchOption, IfSome, position, length};
 ghost use Rattle.text_lines.specs.Parts.{split_first};
 
-/// What stands before the first of this byte, and behind it. None where it stands nowhere.
+/// Returns the bytes before the first occurrence of this byte, and the bytes after it. It returns none if the byte does
+/// not occur.
 pub fn split_at_first(x: u8, bytes: &[u8]) -> Option<(&[u8], &[u8])>
     ensures { MatchOption result (split_first x bytes.now ≡ None)
         (λ r. split_first x bytes.now ≡ Some (r.0.now, r.1.now)) }

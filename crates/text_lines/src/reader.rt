@@ -1,4 +1,4 @@
-//! Readers that take the lines of a text one after another.
+//! This module has readers that take the lines of a text one after another.
 
 ghost use Rattle.std.specs.Prelude.{◌≡◌, ◌≢◌, ◌+◌, ◌<◌, ◌≤◌, ◌∷◌, ◌^◌, [], ℕ, List, Result, Err, OnOk, IfErr, MatchResult, length};
 ghost use Rattle.text_lines.specs.Text.{lines_of, fields_of, significant};
@@ -7,22 +7,22 @@ ghost use Rattle.text_lines.specs.Blank.{IsRightFor};
 use crate::fields::is_blank_line;
 use crate::lines::first_line;
 
-/// A reader that takes the lines of a text one after another, and makes a value of them at the end.
+/// A reader takes the lines of a text one after another, and makes a value of them at the end.
 ///
-/// It takes the lines up to the last that is not blank. What it says of a text does not hang on how the lines come, so
-/// it serves texts that are held and texts that come in pieces.
+/// It takes the lines up to the last that is not blank. Its answer about a text does not depend on how the lines come,
+/// so it serves texts that are held and texts that come in pieces.
 pub trait LineReader: Drop {
-    /// What it makes of a text.
+    /// The reader makes this of a text.
     type Made;
 
-    /// Why a text is refused.
+    /// This says why a text is refused.
     type Fault;
 
     /// This is the answer for a text that goes on with these lines, of which the first has this number.
     ghost answers: { Self → ℕ → List (List ℕ) → Result Self.Made Self.Fault → Type 0 };
 
-    /// Takes the next line, or says why the text is refused, whatever stands behind that line. After a refusal it takes
-    /// no more.
+    /// Takes the next line, or says why the text is refused, whatever follows that line. After a refusal it takes no
+    /// more.
     fn take(&mut self, number: u32, line: &[u8]) -> Result<(), Self::Fault>
         requires { fields_of line.now ≢ [] }
         ensures ok { OnOk result ((lines : List (List ℕ)) (answer : Result Self.Made Self.Fault)
@@ -30,18 +30,18 @@ pub trait LineReader: Drop {
         ensures fault { MatchResult result (λ _. Unit {0})
             (λ fault. (lines : List (List ℕ)) → answers self.old number (line.now ∷ lines) (Err fault)) };
 
-    /// Why a text is refused in which a blank line comes next, and lines behind it that count.
+    /// Says why a text is refused if a blank line comes next, and lines that count come after it.
     fn blank(&self, number: u32) -> Self::Fault
         ensures { (line : List ℕ) (lines : List (List ℕ)) → fields_of line ≡ []
             → answers self.now number (line ∷ lines) (Err result) };
 
-    /// What it makes of the text, which is at its end.
+    /// Returns what the reader makes of the text, which is at its end.
     fn finish(self) -> Result<Self::Made, Self::Fault>
         ensures { (number : ℕ) → answers self number [] result };
 }
 
-/// The lines of a text on their way to a reader. Blank lines wait until another line follows, since those at the end of
-/// a text don't count.
+/// A feed passes the lines of a text on to a reader. Blank lines wait until another line follows, since those at the
+/// end of a text don't count.
 #[derive(Drop)]
 pub struct Feed<R: LineReader> {
     reader: R,
@@ -50,7 +50,7 @@ pub struct Feed<R: LineReader> {
 }
 
 impl<R: LineReader> Feed<R> {
-    /// A reader that has taken nothing yet.
+    /// Returns the feed of a reader that has taken nothing yet.
     pub fn new(reader: R) -> Feed<R>
         ensures reader { result.reader ≡ reader }
         ensures next { result.next ≡ 1 }
@@ -85,7 +85,7 @@ impl<R: LineReader> Feed<R> {
         Ok(())
     }
 
-    /// What the reader makes of the text, which is at its end.
+    /// Returns what the reader makes of the text, which is at its end.
     pub fn end(self) -> Result<R::Made, R::Fault>
         ensures { IsRightFor R.answers self.reader self.next self.blanks [] result }
     {
@@ -93,7 +93,7 @@ impl<R: LineReader> Feed<R> {
     }
 }
 
-/// What a reader makes of a text that is held.
+/// Returns what a reader makes of a text that is held.
 pub fn read_lines<R: LineReader>(text: &[u8], reader: R) -> Result<R::Made, R::Fault>
     requires { length text.now + 2 < 2 ^ 32 }
     ensures { R.answers reader 1 (significant (lines_of text.now)) result }

@@ -1,4 +1,4 @@
--- How the reading of a file ends.
+-- These definitions describe how the reading of a file ends.
 use Rattle.std.specs.Prelude.{Bool, true, false, Option, Some, None, Result, Ok, Err, if◌then◌else◌}
 use Rattle.game_outside.specs.declared.file.FileEnd.{FileEnd}
 use Rattle.game_outside.specs.declared.file.FileEnd.TheVariants as file
@@ -9,13 +9,13 @@ use Rattle.transition_lines.specs.declared.fault.TraFault.{TraFault}
 use Rattle.tra_reader.specs.declared.halt.Halt.{Halt}
 use Rattle.tra_reader.specs.declared.halt.Halt.TheVariants as halt
 
--- memory was wanting, for the whole or for a choice
+-- Memory ran out, for the whole text or for a choice.
 abbrev pub is_out_of_memory : TraCause → Bool
 is_out_of_memory OutOfMemory = true
 is_out_of_memory (Choice state k choice.OutOfMemory) = true
 is_out_of_memory cause = false
 
--- the same answer, but want of memory in place of a refusal for it
+-- The answer is the same, but a refusal because memory ran out becomes `OutOfMemory`.
 abbrev pub without_want_of : {X : Type 0} → Result X (FileEnd TraFault) → Result X (FileEnd TraFault)
 without_want_of (Err (file.Refused fault)) =
     if is_out_of_memory fault.cause then Err file.OutOfMemory else Err (file.Refused fault)
@@ -24,7 +24,7 @@ without_want_of (Err file.OutOfMemory) = Err file.OutOfMemory
 without_want_of (Err file.ReadFault) = Err file.ReadFault
 without_want_of (Err file.TooLong) = Err file.TooLong
 
--- what was read, unless a line was out of order
+-- The answer is what was read, unless a line was out of order.
 abbrev pub in_order_of : {X : Type 0} → Result X (FileEnd Halt) → Option (Result X (FileEnd TraFault))
 in_order_of (Ok x) = Some (Ok x)
 in_order_of (Err (file.Refused halt.OutOfOrder)) = None

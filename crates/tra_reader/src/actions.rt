@@ -1,4 +1,4 @@
-//! The actions of choices.
+//! This module notes the first actions of choices.
 
 ghost use Rattle.std.specs.Prelude.{◌≡◌, ◌≤◌, ℕ, length, nat_eq};
 ghost use Rattle.std.specs.HashMap.{get};
@@ -8,14 +8,14 @@ use std::alloc::{AllocError, Global};
 use std::collections::HashMap;
 use transition_lines::Transition;
 
-/// Where an action stands among the bytes of all.
+/// A span says where an action is among the bytes of all actions.
 #[derive(Clone, Copy, Debug, PartialEq, Eq)]
 struct Span {
     start: usize,
     end: usize,
 }
 
-/// The action of the first line of each choice, by the choice's place in the order of all choices.
+/// Holds the action of the first line of each choice, by the choice's place in the order of all choices.
 #[derive(Drop)]
 pub struct FirstActions {
     bytes: Vec<u8>,
@@ -30,7 +30,7 @@ impl FirstActions {
     ghost use Rattle.transition_lines.specs.Answers.{clashes_at, row_place};
     ghost use Rattle.tra_reader.specs.inside.Noted.{noted, silent_rows, Notes};
 
-    /// No action so far.
+    /// Starts with no action.
     pub fn new(alloc: Global) -> FirstActions
         ensures { Notes result [] }
     {
@@ -54,7 +54,7 @@ impl FirstActions {
         }
     }
 
-    /// Notes lines without an action, where none is noted.
+    /// Notes that these lines have no action, if nothing is noted yet.
     pub fn note_silent(&mut self, lines: &[Transition]) -> Result<(), AllocError>
         ensures { OnOk result (Notes self.old [] → Notes self.new (silent_rows lines.now)) }
     {
@@ -64,7 +64,7 @@ impl FirstActions {
         Ok(())
     }
 
-    // Keeps the action of a choice that has none.
+    // Keeps the action of a choice for which none is noted.
     fn put(&mut self, place: u64, action: &[u8]) -> Result<(), AllocError>
         ensures { OnOk result ((q : ℕ) → noted self.new q ≡ (if place
             == q then Some action.now else noted self.old q)) }

@@ -1,4 +1,4 @@
-//! A reader of transition lines that stand in any order.
+//! This module reads transition lines that come in any order.
 
 ghost use Rattle.std.specs.Prelude.{◌≡◌, ◌≢◌, ◌≤◌, ◌<◌, [], ℕ, List, IfOk, OnOk, MatchResult, length};
 ghost use Rattle.std.specs.List.{All};
@@ -14,7 +14,7 @@ use std::alloc::Global;
 use text_lines::LineReader;
 use transition_lines::{Header, TraFault, Transition};
 
-/// Reads a text whose transitions stand in any order. It keeps all of them.
+/// Reads a text whose transitions come in any order. It keeps all of them.
 #[derive(Drop)]
 pub struct AnyLines {
     alloc: Global,
@@ -24,7 +24,7 @@ pub struct AnyLines {
 impl AnyLines {
     ghost use Rattle.std.specs.Prelude.{None};
 
-    /// A reader that has read no line.
+    /// Makes a reader that has read no line.
     pub fn new(alloc: Global) -> AnyLines
         ensures { result.held ≡ None }
     {
@@ -67,7 +67,7 @@ impl LineReader for AnyLines {
     }
 }
 
-/// The rows behind a header: their transitions, and the first action of each choice.
+/// Holds the rows behind a header: their transitions, and the first action of each choice.
 #[derive(Drop)]
 pub struct AnyRows {
     header: Header,
@@ -80,7 +80,7 @@ pub struct AnyRows {
 impl AnyRows {
     ghost use Rattle.tra_reader.specs.inside.AnyOrder.{BeginsAny, TakesAny, RefusesAny, AddsAny, RefusesAnyRow, FinishesAny};
 
-    /// No row behind the header of this line.
+    /// Reads the header from this line, and holds no row yet.
     pub fn begin(alloc: Global, line: &[u8]) -> Result<AnyRows, TraFault>
         ensures { BeginsAny line.now result }
     {
@@ -104,7 +104,7 @@ impl AnyRows {
         }
     }
 
-    // Takes a row, unless it clashes with one of its choice.
+    // Takes a row, unless it clashes with another row of its choice.
     fn add(&mut self, number: u32, transition: Transition, action: &[u8]) -> Result<(), TraFault>
         requires { IsWithin self.old.header.states transition }
         ensures ok { OnOk result (AddsAny self.old self.new (record { transition = transition; action = action.now })) }
@@ -119,7 +119,7 @@ impl AnyRows {
         Ok(())
     }
 
-    /// The game of the rows, which are all of the text.
+    /// Makes the game of the rows when the text has no more.
     pub fn finish(self, alloc: Global) -> Result<Game, TraFault>
         ensures { FinishesAny self result }
     {

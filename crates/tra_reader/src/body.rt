@@ -1,4 +1,5 @@
-//! What the readers of transition lines have in common: the header's line, the rows behind it, and the end of the text.
+//! This module reads what the readers of transition lines share: the header's line, the rows behind it, and the end of
+//! the text.
 
 ghost use Rattle.std.specs.Prelude.{◌≡◌, ◌≢◌, ◌≤◌, ◌<◌, IfOk, MatchResult, [], if◌then◌else◌};
 ghost use Rattle.text_lines.specs.Text.{fields_of};
@@ -11,7 +12,7 @@ ghost use Rattle.tra_reader.specs.inside.Reading.{RowAnswer, at_first_line};
 
 use transition_lines::{Header, TraCause, TraFault, Transition, read_header, read_line};
 
-/// The header of a text, from its first line.
+/// Reads the header of a text from its first line.
 pub fn first_line(line: &[u8]) -> Result<Header, TraFault>
     ensures said { result ≡ at_first_line (header_said (fields_of line.now)) }
     ensures accepted { IfOk result IsAccepted }
@@ -22,7 +23,7 @@ pub fn first_line(line: &[u8]) -> Result<Header, TraFault>
     }
 }
 
-/// The fault of a text that has no line but blank ones.
+/// Returns the fault of a text that has only blank lines.
 pub fn no_header() -> TraFault
     ensures { result ≡ fault_at 1 TraCause.NoHeader }
 {
@@ -32,7 +33,7 @@ pub fn no_header() -> TraFault
     }
 }
 
-/// The fault of a blank line behind the header, before another line.
+/// Returns the fault of a blank line behind the header, before another line.
 pub fn blank_between(number: u32) -> TraFault
     ensures { result ≡ fault_at number TraCause.FieldCount }
 {
@@ -42,7 +43,7 @@ pub fn blank_between(number: u32) -> TraFault
     }
 }
 
-/// What a line says by itself, where so many rows were read before it.
+/// Reads what a line says by itself, when `read` rows were read before it.
 #[inline(always)]
 pub fn read_row<'a>(
     header: &Header,
@@ -74,7 +75,7 @@ pub fn read_row<'a>(
     }
 }
 
-/// Whether no line is missing, where so many rows were read.
+/// Checks that no line is missing when `read` rows were read.
 pub fn check_count(header: &Header, read: usize) -> Result<(), TraFault>
     ensures { MatchResult result (λ _. header.now.lines ≤ read)
         (λ fault. (read < header.now.lines) × (fault ≡ fault_of_all (TraCause.LineCount read header.now.lines))) }

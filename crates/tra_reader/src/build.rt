@@ -1,4 +1,4 @@
-//! The game of transitions that are all read.
+//! This module builds the game when all transitions are read.
 
 ghost use Rattle.std.specs.List.{All};
 ghost use Rattle.game_outside.specs.Answers.{AnswersOrWants};
@@ -13,7 +13,7 @@ use game_model::Game;
 use std::alloc::Global;
 use transition_lines::{Header, TraFault, Transition};
 
-/// The game of these transitions, in whatever order they stand.
+/// Builds the game of these transitions, in whatever order they come.
 pub fn build(alloc: Global, transitions: Vec<Transition>, header: &Header) -> Result<Game, TraFault>
     requires accepted { IsAccepted header.now }
     requires within { All (IsWithin header.now.states) transitions.items }

@@ -1,4 +1,4 @@
-//! Transition files whose text comes in pieces.
+//! This module reads transition files whose text comes in pieces.
 
 ghost use Rattle.std.specs.Prelude.{◌≡◌, ◌≤◌};
 ghost use Rattle.text_lines.specs.Limits.{most_bytes};
@@ -19,8 +19,8 @@ use game_outside::{FileEnd, Shelf, read_lines_from};
 use std::alloc::Global;
 use transition_lines::{TraCause, TraFault};
 
-/// The game that the text under a name denotes, or its first fault, in whatever pieces the text comes. A text in the
-/// order of its choices is read in one pass; any other is begun and read once more.
+/// Reads the game that the text under a name denotes, or its first fault, in whatever pieces the text comes. A text in
+/// the order of its choices is read in one pass. Any other text is read again from its start.
 pub fn read_tra_from<H: Shelf>(
     alloc: Global,
     shelf: &mut H,
@@ -33,8 +33,8 @@ pub fn read_tra_from<H: Shelf>(
     ensures reads { ReadsFile (λ text answer. game_of text ≡ answer) (H.held shelf.old) name.now limit result }
     ensures caused { RefusesCaused (λ fault. is_out_of_memory fault.cause) result }
 
-    // It fails only where the shelf fails, takes little more than the limit, and changes nothing of what the shelf
-    // holds.
+    // A read fault comes only from the shelf. The call takes little more than the limit, and changes nothing of what
+    // the shelf holds.
     ensures shelf { LeavesShelf H.Shelf name.now limit shelf.old shelf.new result }
 {
     match in_order(read_in_order(alloc, shelf, name, limit)) {
@@ -43,7 +43,7 @@ pub fn read_tra_from<H: Shelf>(
     }
 }
 
-// The game of a text that is in order.
+// Reads the game of a text that is in order.
 fn read_in_order<H: Shelf>(
     alloc: Global,
     shelf: &mut H,
@@ -59,7 +59,7 @@ fn read_in_order<H: Shelf>(
     read_lines_from(alloc, shelf, name, limit, reader)
 }
 
-// The game of a text in any order.
+// Reads the game of a text in any order.
 fn read_in_any_order<H: Shelf>(
     alloc: Global,
     shelf: &mut H,
@@ -75,7 +75,7 @@ fn read_in_any_order<H: Shelf>(
     read_lines_from(alloc, shelf, name, limit, reader)
 }
 
-// What was read, unless a line was out of order.
+// Returns what was read, unless a line was out of order.
 fn in_order(read: Result<Game, FileEnd<Halt>>) -> Option<Result<Game, FileEnd<TraFault>>>
     ensures { result ≡ in_order_of read }
 {
@@ -89,7 +89,7 @@ fn in_order(read: Result<Game, FileEnd<Halt>>) -> Option<Result<Game, FileEnd<Tr
     }
 }
 
-// Want of memory refuses no text.
+// That memory ran out is no refusal of the text, but an end of its own.
 fn without_want(read: Result<Game, FileEnd<TraFault>>) -> Result<Game, FileEnd<TraFault>>
     ensures { result ≡ without_want_of read }
 {
@@ -106,7 +106,7 @@ fn without_want(read: Result<Game, FileEnd<TraFault>>) -> Result<Game, FileEnd<T
     }
 }
 
-// Whether memory was wanting, for the whole or for a choice.
+// Returns whether memory ran out, for the whole text or for a choice.
 fn is_out_of_memory(cause: &TraCause) -> bool
     ensures { result ≡ is_out_of_memory cause.now }
 {

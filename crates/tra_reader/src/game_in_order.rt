@@ -1,4 +1,4 @@
-//! A game made of transitions that come in the order of their choices.
+//! This module makes a game of transitions that come in the order of their choices.
 
 ghost use Rattle.std.specs.Prelude.{◌≡◌, ◌<◌, ◌≤◌, ◌↔◌, ◌∷◌, ◌++◌, ℕ, List, [], length, IfOk, OnOk, IsTrue};
 ghost use Rattle.game_model.specs.Limits.{most_states};
@@ -16,8 +16,8 @@ use std::alloc::{AllocError, Global};
 use std::marker::Model;
 use transition_lines::{TraFault, Transition, place_at};
 
-/// A game under way, made of transitions that come in the order of their choices. Only those of the choice under way
-/// are kept, as its parts, and room for the edges of a choice.
+/// A game under way is made of transitions that come in the order of their choices. It keeps only those of the choice
+/// under way, as its parts, and room for the edges of a choice.
 #[derive(Drop)]
 pub struct GameInOrder {
     states: u32,
@@ -39,7 +39,7 @@ impl Model for GameInOrder {
 }
 
 impl GameInOrder {
-    /// The game of so many states without a transition.
+    /// Starts a game of `states` states without a transition.
     pub fn new(alloc: Global, states: u32) -> Result<GameInOrder, AllocError>
         requires some { 0 < states }
         requires few { states ≤ most_states }
@@ -63,22 +63,22 @@ impl GameInOrder {
         })
     }
 
-    /// The place of the choice under way, and 0 before the first transition.
+    /// Returns the place of the choice under way, and 0 before the first transition.
     pub fn place(&self) -> u64
         ensures { result ≡ place_under_way self.now }
     {
         place_at(self.whole.state, self.whole.choice)
     }
 
-    /// Whether a transition was added.
+    /// Returns whether a transition was added.
     pub fn has_begun(&self) -> bool
         ensures { IsTrue result ↔ (0 < length self.now.parts) }
     {
         !self.parts.is_empty()
     }
 
-    /// Adds a transition that is not before the choice under way. The only error is want of memory; where a whole
-    /// choice finds none, `finish` says so.
+    /// Adds a transition that is not before the choice under way. The only error is that memory ran out. If memory runs
+    /// out for a whole choice, `finish` says so.
     #[inline(always)]
     pub fn add(&mut self, alloc: Global, transition: &Transition) -> Result<(), AllocError>
         requires within { IsWithin self.old.states transition.now }
@@ -94,7 +94,7 @@ impl GameInOrder {
         Ok(())
     }
 
-    // Adds the first transition of a choice behind that under way.
+    // Adds the first transition of a choice behind the one under way.
     fn begin(&mut self, alloc: Global, transition: &Transition) -> Result<(), AllocError>
         requires within { IsWithin self.old.states transition.now }
         requires order { place_under_way self.old < transition_place transition.now }
@@ -113,7 +113,7 @@ impl GameInOrder {
         Ok(())
     }
 
-    /// The game of all transitions that were added, or the first fault of the whole.
+    /// Makes the game of all transitions that were added, or gives the first fault of the whole.
     pub fn finish(self, alloc: Global, stated: Option<u32>) -> Result<Game, TraFault>
         ensures { (n : ℕ) (all : List Transition) → HoldsInOrder self n all
             → AnswersOrWants IsOutOfMemory (λ g. g) result (transitions_game all n stated) }

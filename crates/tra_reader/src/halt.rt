@@ -1,12 +1,12 @@
-//! Why a reader of lines in order ends.
+//! This module says why a reader of lines in order ends.
 
 use std::alloc::AllocError;
 use transition_lines::{TraCause, TraFault};
 
-/// Why a reader of lines in order ends.
+/// A halt is the reason why a reader of lines in order ends.
 #[derive(Clone, Copy, Debug, PartialEq, Eq)]
 pub enum Halt {
-    /// A line stands before the choice under way.
+    /// A line comes before the choice under way.
     OutOfOrder,
     /// The text is refused.
     Refused(TraFault),

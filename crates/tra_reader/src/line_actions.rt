@@ -1,4 +1,4 @@
-//! The actions of lines.
+//! This module notes the actions of lines.
 
 ghost use Rattle.std.specs.Prelude.{◌≡◌, ◌++◌, ◌∷◌, [], List, IfOk, OnOk, false};
 ghost use Rattle.transition_lines.specs.Lines.{Row};
@@ -10,7 +10,7 @@ use crate::actions::FirstActions;
 use std::alloc::{AllocError, Global};
 use transition_lines::Transition;
 
-/// The first actions of choices. Nothing is noted as long as no line has an action.
+/// Holds the first actions of choices. Nothing is noted as long as no line has an action.
 #[derive(Drop)]
 pub struct LineActions {
     first: FirstActions,
@@ -18,7 +18,7 @@ pub struct LineActions {
 }
 
 impl LineActions {
-    /// No line so far.
+    /// Starts before the first line.
     pub fn new(alloc: Global) -> LineActions
         ensures { NotesLines result [] }
     {
@@ -46,7 +46,7 @@ impl LineActions {
         self.first.note(place, action)
     }
 
-    // Notes the lines so far, unless they are noted.
+    // Notes the lines so far, unless they are already noted.
     fn note_all(&mut self, before: &[Transition]) -> Result<(), AllocError>
         ensures noted { OnOk result ((rows : List Row) → transitions rows ≡ before.now → NotesLines self.old rows
             → Notes self.new.first rows) }

@@ -1,4 +1,4 @@
-//! Transitions in the order of their choices.
+//! This module sorts transitions by their choices.
 
 ghost use Rattle.std.specs.Prelude.{◌≡◌, ℕ, OnOk, length};
 ghost use Rattle.std.specs.List.{filter, All};
@@ -7,7 +7,7 @@ ghost use Rattle.transition_lines.specs.Order.{Rises, IsWithin, has, transition_
 use std::alloc::AllocError;
 use transition_lines::Transition;
 
-/// Puts the transitions in the order of their choices, those of one choice as they stood.
+/// Puts the transitions in the order of their choices, and keeps the order of those of one choice.
 pub fn put_in_order(transitions: &mut Vec<Transition>) -> Result<(), AllocError>
     ensures rises { OnOk result (Rises transition_place transitions.new.items) }
     ensures same { OnOk result ((q : ℕ) → filter (has transition_place q) transitions.new.items

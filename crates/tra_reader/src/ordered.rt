@@ -1,4 +1,4 @@
-//! A reader of transition lines that stand in the order of their choices.
+//! This module reads transition lines that come in the order of their choices.
 
 ghost use Rattle.std.specs.Prelude.{◌≡◌, ◌≢◌, ◌≤◌, ◌<◌, [], ℕ, List, IfOk, OnOk, MatchResult, length};
 ghost use Rattle.text_lines.specs.Text.{fields_of};
@@ -17,8 +17,8 @@ use std::alloc::{AllocError, Global};
 use text_lines::LineReader;
 use transition_lines::{Header, TraFault, Transition};
 
-/// Reads a text whose transitions stand in the order of their choices. It keeps no row, and halts at the first line
-/// that stands before the choice under way.
+/// Reads a text whose transitions come in the order of their choices. It keeps no row, and halts at the first line that
+/// comes before the choice under way.
 #[derive(Drop)]
 pub struct OrderedLines {
     alloc: Global,
@@ -28,7 +28,7 @@ pub struct OrderedLines {
 impl OrderedLines {
     ghost use Rattle.std.specs.Prelude.{None};
 
-    /// A reader that has read no line.
+    /// Makes a reader that has read no line.
     pub fn new(alloc: Global) -> OrderedLines
         ensures { result.held ≡ None }
     {
@@ -71,7 +71,7 @@ impl LineReader for OrderedLines {
     }
 }
 
-/// The rows behind a header, as the game that they make so far, and the action of the choice under way.
+/// Holds the rows behind a header, as the game that they make so far, and the action of the choice under way.
 #[derive(Drop)]
 pub struct OrderedRows {
     header: Header,
@@ -86,7 +86,7 @@ impl OrderedRows {
     ghost use Rattle.std.specs.Prelude.{false, true, ◌==◌, ◌++◌, ◌∷◌, Some};
     ghost use Rattle.tra_reader.specs.inside.Ordered.{BeginsOrdered, TakesOrdered, RefusesOrdered, AddsOrdered, RefusesOrderedRow, FinishesOrdered};
 
-    /// No row behind the header of this line.
+    /// Reads the header from this line, and holds no row yet.
     pub fn begin(alloc: Global, line: &[u8]) -> Result<OrderedRows, TraFault>
         ensures { BeginsOrdered line.now result }
     {
@@ -112,7 +112,7 @@ impl OrderedRows {
         }
     }
 
-    // Takes a row, unless it clashes with one of its choice.
+    // Takes a row, unless it clashes with another row of its choice.
     fn add(
         &mut self,
         alloc: Global,
@@ -140,7 +140,7 @@ impl OrderedRows {
         Ok(())
     }
 
-    /// The game of the rows, which are all of the text.
+    /// Makes the game of the rows when the text has no more.
     pub fn finish(self, alloc: Global) -> Result<Game, TraFault>
         ensures { FinishesOrdered self result }
     {
@@ -149,7 +149,7 @@ impl OrderedRows {
     }
 }
 
-// Whether an action is another than that of the first line of its choice. The action of a new choice is kept.
+// Returns whether an action differs from that of the first line of its choice. The action of a new choice is kept.
 fn compare(
     game: &GameInOrder,
     kept: &mut Vec<u8>,

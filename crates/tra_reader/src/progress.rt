@@ -1,4 +1,4 @@
-//! What has come of the whole choices of a game under way.
+//! This module says what has become of the whole choices of a game under way.
 
 ghost use Rattle.std.specs.Prelude.{◌≡◌, ◌≤◌, IfOk, IfErr};
 ghost use Rattle.game_model.specs.Limits.{most_choices};
@@ -11,23 +11,23 @@ use game_model::{Choice, Edge, GameBuilder, MOST_CHOICES};
 use std::alloc::{AllocError, Global};
 use transition_lines::{MOST_LINES, TraFault};
 
-/// What has come of the whole choices.
+/// The progress says what has become of the whole choices.
 #[derive(Drop)]
 pub enum Progress {
     /// They are in the builder.
     Builds(GameBuilder),
-    /// The first that is no distribution has this fault. No more are built.
+    /// The first choice that is no distribution has this fault. No more choices are built.
     Faulty(TraFault),
-    /// The first state with more choices than a state may have. No more are built.
+    /// This is the first state with more choices than a state may have. No more choices are built.
     Crowded { state: u32 },
-    /// The first choice that is missing before one that is there.
+    /// This is the first choice that is missing before one that is there.
     Gap { state: u32, choice: u32 },
     /// Memory ran out.
     OutOfMemory,
 }
 
 impl Progress {
-    /// The choice of this state with these parts is whole. The list of edges is room to make it in.
+    /// Makes the choice of this state with these parts whole. The list of edges is room to make it in.
     pub fn push(
         &mut self,
         alloc: Global,
@@ -45,7 +45,7 @@ impl Progress {
         }
     }
 
-    /// The state that has so many choices is whole.
+    /// Ends the state, which has this many choices.
     pub fn end_state(&mut self, alloc: Global, state: u32, choices: u32)
         ensures { EndsState state choices self.old self.new }
     {
@@ -56,7 +56,7 @@ impl Progress {
         self.end_few(alloc, state, choices);
     }
 
-    // The state that is whole has more choices than a state may have.
+    // Notes that the state has more choices than a state may have.
     fn note_crowded(&mut self, state: u32)
         ensures { CrowdsState state self.old self.new }
     {
@@ -66,7 +66,7 @@ impl Progress {
         }
     }
 
-    // The state that is whole has so many choices, which are not too many.
+    // Ends the state, which has this many choices, and not too many.
     fn end_few(&mut self, alloc: Global, state: u32, choices: u32)
         requires { choices ≤ most_choices }
         ensures { EndsState state choices self.old self.new }
@@ -78,7 +78,7 @@ impl Progress {
         }
     }
 
-    /// A choice is there, and this one before it is missing.
+    /// Notes that this choice is missing before one that is there.
     pub fn note_gap(&mut self, state: u32, choice: u32)
         ensures { NotesGap state choice self.old self.new }
     {
@@ -91,7 +91,7 @@ impl Progress {
     }
 }
 
-// Puts the choice with these parts behind the others. More parts than a text has lines count as want of memory.
+// Puts the choice with these parts behind the others. More parts than a text has lines count as if memory ran out.
 fn build(
     alloc: Global,
     builder: &mut GameBuilder,
@@ -113,7 +113,7 @@ fn build(
     Ok(())
 }
 
-// What comes of a choice with this fault.
+// Returns the progress after a choice with this fault.
 fn fault_progress(state: u32, choice: u32, fault: ChoiceFault) -> Progress
     ensures { result ≡ progress_of state choice fault }
 {
@@ -123,7 +123,7 @@ fn fault_progress(state: u32, choice: u32, fault: ChoiceFault) -> Progress
     }
 }
 
-// Ends the state that has so many choices: where it has none, with a move to itself.
+// Ends the state, which has this many choices. If it has none, it gets a move to itself.
 fn end(alloc: Global, builder: &mut GameBuilder, state: u32, choices: u32) -> Result<(), AllocError>
     ensures { IfOk result (λ _. builder.new ≡ ended state choices builder.old) }
 {
@@ -139,7 +139,7 @@ fn end(alloc: Global, builder: &mut GameBuilder, state: u32, choices: u32) -> Re
     Ok(())
 }
 
-// A move of weight 1 to the state itself.
+// Makes a move of weight 1 to the state itself.
 fn stay(alloc: Global, state: u32) -> Result<Choice, AllocError>
     ensures { IfOk result (λ c. c ≡ self_loop state) }
 {

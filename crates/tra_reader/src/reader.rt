@@ -1,4 +1,4 @@
-//! The reader of a whole text.
+//! This module reads a whole text.
 
 ghost use Rattle.std.specs.Prelude.{◌≤◌, length};
 ghost use Rattle.text_lines.specs.Limits.{most_bytes};
@@ -14,8 +14,9 @@ use std::alloc::Global;
 use text_lines::read_lines;
 use transition_lines::TraFault;
 
-/// The game that a transition text denotes, or the text's first fault. A text in order is read in one pass, any other
-/// once more. What is said of a text is what it denotes: `transition_lines::laws::said_is_denoted`.
+/// Reads the game that a transition text denotes, or the text's first fault. A text in order is read in one pass. Any
+/// other text is read again from its start. What is said of a text is what it denotes:
+/// `transition_lines::laws::said_is_denoted`.
 pub fn read_tra(alloc: Global, bytes: &[u8]) -> Result<Game, TraFault>
     requires { length bytes.now ≤ most_bytes }
     ensures { AnswersOrWants IsOutOfMemory (λ g. g) result (game_of bytes.now) }

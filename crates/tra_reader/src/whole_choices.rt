@@ -1,4 +1,5 @@
-//! The choices of a game under way that are whole, since the transitions come in the order of their choices.
+//! This module holds the choices of a game under way that are whole because the transitions come in the order of their
+//! choices.
 
 ghost use Rattle.std.specs.Prelude.{◌≡◌, ◌<◌, ◌≤◌, ◌+◌, ℕ, List};
 ghost use Rattle.transition_lines.specs.declared.line.Transition.{Transition};
@@ -15,7 +16,7 @@ use game_model::{Edge, Game};
 use std::alloc::Global;
 use transition_lines::{TraCause, TraFault};
 
-/// The whole choices: all that come before one choice of one state.
+/// The whole choices are all that come before one choice of one state.
 #[derive(Drop)]
 pub struct WholeChoices {
     pub state: u32,
@@ -25,7 +26,7 @@ pub struct WholeChoices {
 }
 
 impl WholeChoices {
-    /// One choice more is whole, which has these parts. The list of edges is room to make it in.
+    /// Makes one more choice whole, which has these parts. The list of edges is room to make it in.
     fn end_choice(&mut self, alloc: Global, room: &mut Vec<Edge>, parts: &[Part])
         requires { self.old.choice < most_stated_choices }
         ensures state { self.new.state ≡ self.old.state }
@@ -41,7 +42,7 @@ impl WholeChoices {
         }
     }
 
-    /// The states before this one are whole.
+    /// Makes the states before this one whole.
     fn end_states(&mut self, alloc: Global, to: u32)
         requires { self.old.state ≤ to }
         ensures state { self.new.state ≡ to }
@@ -56,8 +57,8 @@ impl WholeChoices {
         }
     }
 
-    /// All choices before this state are whole, where the choice under way has these parts, or no part where nothing
-    /// has begun.
+    /// Makes all choices before this state whole. The choice under way has these parts, or no part if nothing has
+    /// begun.
     pub fn end_before(&mut self, alloc: Global, room: &mut Vec<Edge>, parts: &[Part], to: u32)
         requires low { self.old.choice < most_stated_choices }
         requires ahead { self.old.state ≤ to }
@@ -72,7 +73,7 @@ impl WholeChoices {
         self.end_states(alloc, to);
     }
 
-    /// The next choice is this one. Where that passes one over, that one is missing.
+    /// Makes this choice the next one. If that passes a choice over, that choice is missing.
     pub fn go_to(&mut self, choice: u32)
         requires { self.old.choice ≤ choice }
         ensures state { self.new.state ≡ self.old.state }
@@ -86,7 +87,7 @@ impl WholeChoices {
         self.choice = choice;
     }
 
-    /// The game of the whole choices, which are those of all states, or the first fault of the whole.
+    /// Makes the game of the whole choices, which are those of all states, or gives the first fault of the whole.
     pub fn finish(self, stated: Option<u32>) -> Result<Game, TraFault>
         requires { IfBuilds self.progress IsReady }
         ensures { (n : ℕ) (transitions : List Transition) → self.state ≡ n → self.choice ≡ 0
@@ -111,7 +112,7 @@ impl WholeChoices {
     }
 }
 
-// The fault where the choices are not as many as stated.
+// Returns the fault if the choices are not as many as stated.
 fn stated_otherwise(stated: Option<u32>, read: u32) -> Option<TraFault>
     ensures { IsAsStated stated read result }
 {

@@ -1,4 +1,4 @@
--- What a call answers: what the text says, or that memory ran out.
+-- These are the faults of a text, and the answer that memory ran out.
 use Rattle.std.specs.Prelude.{◌≡◌, ℕ}
 use Rattle.transition_lines.specs.declared.fault.TraCause.{TraCause}
 use Rattle.distributions.specs.declared.choice.ChoiceFault.{ChoiceFault}
@@ -6,19 +6,20 @@ use Rattle.distributions.specs.declared.choice.ChoiceFault.TheVariants.{OutOfMem
 use Rattle.transition_lines.specs.declared.fault.TraCause.TheVariants.{OutOfMemory, Choice}
 use Rattle.transition_lines.specs.declared.fault.TraFault.{TraFault}
 
--- the fault of a line, by its number, which counts from 1; that of line 0 is of the whole text
+-- This is the fault of a line, by its number, which counts from 1. A fault of line 0 belongs to the whole text.
 abbrev pub fault_at : ℕ → TraCause → TraFault
 fault_at line cause = record { line = line; cause = cause }
 
--- a fault of the whole text
+-- This is a fault of the whole text.
 abbrev pub fault_of_all : TraCause → TraFault
 fault_of_all cause = fault_at 0 cause
 
--- memory ran out, which is no fault of the text
+-- Memory ran out, which is no fault of the text.
 abbrev pub IsOutOfMemory : TraFault → Type 0
 IsOutOfMemory fault = fault ≡ fault_of_all OutOfMemory
 
--- the fault of a choice; want of memory is that of the whole text
+-- This is the fault of a choice, which belongs to the whole text. If memory ran out for the choice, it ran out for the
+-- whole text.
 abbrev pub fault_of_choice : ℕ → ℕ → ChoiceFault → TraFault
 fault_of_choice s k NoMemory = fault_of_all OutOfMemory
 fault_of_choice s k (TooFine first second) = fault_of_all (Choice s k (TooFine first second))

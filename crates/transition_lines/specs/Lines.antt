@@ -1,4 +1,4 @@
--- What the lines of a transition text say, each by itself and behind those before it.
+-- These definitions give what the lines of a transition text say, each by itself and behind those before it.
 use Rattle.std.specs.Prelude.{◌≡◌, ◌<◌, ◌≤◌, ℕ, ◌+◌, ◌==◌, ◌&&◌, ◌||◌, not, nat_lt, Bool, false, List, [], ◌∷◌, ◌++◌}
 use Rattle.std.specs.Prelude.{length, map, slice_get, Option, Some, None, option_map, Result, Ok, Err, if◌then◌else◌}
 use Rattle.std.specs.List.{filter, AllByRecursion}
@@ -19,15 +19,15 @@ use Rattle.transition_lines.specs.declared.fault.TraFault.{TraFault}
 use Rattle.transition_lines.specs.Faults.{fault_at, fault_of_all}
 use Rattle.transition_lines.specs.Limits.{most_stated_choices, most_lines}
 
--- 1. As relations.
+-- 1. These definitions are relations.
 
--- the numbers of a header: `n c m` for an MDP, `n m` for a DTMC
+-- These are the numbers of a header: `n c m` for an MDP, `n m` for a DTMC.
 abbrev pub header_numbers : ℕ → Option ℕ → ℕ → List ℕ
 header_numbers n (Some c) m = n ∷ c ∷ m ∷ []
 header_numbers n None m = n ∷ m ∷ []
 
--- the line is this header: the numbers of states, at least one, of choices in an MDP, and of lines, each within its
--- limit
+-- The line is this header: the number of states, at least one, of choices in an MDP, and of lines, each within its
+-- limit.
 pub record IsHeader (line : List ℕ) (header : Header) : Type 0 where
   pub numbers : map number_of (fields_of line) ≡ map Some (header_numbers header.states header.choices header.lines)
   pub some : 0 < header.states
@@ -35,8 +35,8 @@ pub record IsHeader (line : List ℕ) (header : Header) : Type 0 where
   pub bounded : ForSome header.choices (λ c. c ≤ most_stated_choices)
   pub short : header.lines ≤ most_lines
 
--- The parts of a line: whole numbers where its fields spell them, the probability, and the action. An action is a
--- field, or no byte where there is none.
+-- The parts of a line are three whole numbers, each only if its field spells one, the probability, and the action. An
+-- action is a field, or no byte if there is none.
 pub record LineParts : Type 0 where
   pub source : Option ℕ
   pub choice : Option ℕ
@@ -44,7 +44,7 @@ pub record LineParts : Type 0 where
   pub probability : List ℕ
   pub action : List ℕ
 
--- in an MDP `i k j x` or `i k j x a`
+-- In an MDP a line is `i k j x` or `i k j x a`.
 abbrev pub mdp_parts : List (List ℕ) → Option LineParts
 mdp_parts (i ∷ k ∷ j ∷ x ∷ []) = Some (record {
   source = number_of i;
@@ -62,7 +62,7 @@ mdp_parts (i ∷ k ∷ j ∷ x ∷ a ∷ []) = Some (record {
 })
 mdp_parts fields = None
 
--- in a DTMC `i j x` or `i j x a`; it counts as choice 0, and its action is passed over
+-- In a DTMC a line is `i j x` or `i j x a`. It counts as choice 0, and its action is ignored.
 abbrev pub dtmc_parts : List (List ℕ) → Option LineParts
 dtmc_parts (i ∷ j ∷ x ∷ []) = Some (record {
   source = number_of i;
@@ -80,18 +80,18 @@ dtmc_parts (i ∷ j ∷ x ∷ a ∷ []) = Some (record {
 })
 dtmc_parts fields = None
 
--- a header that states choices is that of an MDP
+-- A header that states choices is that of an MDP.
 abbrev pub line_parts : Option ℕ → List (List ℕ) → Option LineParts
 line_parts (Some c) fields = mdp_parts fields
 line_parts None fields = dtmc_parts fields
 
--- what a line says: its transition and its action
+-- A line says its transition and its action.
 pub record Row : Type 0 where
   pub transition : Transition
   pub action : List ℕ
 
--- the line says this row of a text with this header: a transition between states that there are, with its probability,
--- and an action
+-- The line says this row of a text with this header: a transition between two of its states, with its probability, and
+-- an action.
 pub record IsRow (header : Header) (line : List ℕ) (row : Row) : Type 0 where
   pub probability : List ℕ
   pub parts : line_parts header.choices (fields_of line)
@@ -107,110 +107,112 @@ pub record IsRow (header : Header) (line : List ℕ) (row : Row) : Type 0 where
   pub choice_in : row.transition.choice < most_stated_choices
   pub destination_in : row.transition.destination < header.states
 
--- each line says the row in its place
+-- Each line says the row in its place.
 abbrev pub AreRows : Header → List (List ℕ) → List Row → Type 0
 AreRows header [] [] = Unit {0}
 AreRows header [] (row ∷ rows) = ⊥
 AreRows header (line ∷ lines) [] = ⊥
 AreRows header (line ∷ lines) (row ∷ rows) = IsRow header line row × AreRows header lines rows
 
--- these are the actions of all choices
+-- All rows of a choice have its action.
 abbrev pub HaveActions : List Row → (ℕ → ℕ → List ℕ) → Type 0
 HaveActions rows action_of = AllByRecursion (λ row. row.action
     ≡ action_of row.transition.source row.transition.choice) rows
 
--- 2. By cases, with the first fault.
+-- 2. These definitions go by cases, with the first fault.
 
--- the header with n states, c choices and m lines, or its fault: a number is above its limit, or there is no state
+-- This is the header with n states, c choices and m lines, or its fault: a number is above its limit, or there is no
+-- state.
 abbrev pub header_checked : ℕ → Option ℕ → ℕ → Result Header TraCause
 header_checked n c m =
     if nat_lt most_states n || (option_map_or (nat_lt most_stated_choices) c false
     || nat_lt most_lines m) then Err OverLimit
     else (if n == 0 then Err NoStates else Ok (record { states = n; choices = c; lines = m }))
 
--- the header of an MDP, of three whole numbers for states, choices and lines, or its fault
+-- This is the header of an MDP, from three whole numbers for states, choices and lines, or its fault.
 abbrev pub mdp_header : Option ℕ → Option ℕ → Option ℕ → Result Header TraCause
 mdp_header (Some n) (Some c) (Some m) = header_checked n (Some c) m
 mdp_header n c m = Err NoHeader
 
--- the header of a DTMC, of two whole numbers for states and lines, or its fault
+-- This is the header of a DTMC, from two whole numbers for states and lines, or its fault.
 abbrev pub dtmc_header : Option ℕ → Option ℕ → Result Header TraCause
 dtmc_header (Some n) (Some m) = header_checked n None m
 dtmc_header n m = Err NoHeader
 
--- the header that the fields of a line say, three in an MDP and two in a DTMC, or its fault
+-- This is the header that the fields of a line say, three in an MDP and two in a DTMC, or its fault.
 abbrev pub header_said : List (List ℕ) → Result Header TraCause
 header_said (n ∷ m ∷ []) = dtmc_header (number_of n) (number_of m)
 header_said (n ∷ c ∷ m ∷ []) = mdp_header (number_of n) (number_of c) (number_of m)
 header_said fields = Err NoHeader
 
--- the transition from state i by choice k to state j with this probability, or the fault of the probability
+-- This is the transition from state i by choice k to state j with this probability, or the fault of the probability.
 abbrev pub transition_with : ℕ → ℕ → ℕ → Result Fraction NumberFault → Result Transition TraCause
 transition_with i k j (Ok share) = Ok (record { source = i; choice = k; destination = j; share = share })
 transition_with i k j (Err fault) = Err (Number fault)
 
--- the transition from state i by choice k to state j, or the first fault: a state is not below n, the choice is not
--- below its limit, or the probability is refused
+-- This is the transition from state i by choice k to state j, or the first fault: a state is not below n, the choice is
+-- not below its limit, or the probability is refused.
 abbrev pub transition_within : ℕ → ℕ → ℕ → ℕ → Result Fraction NumberFault → Result Transition TraCause
 transition_within n i k j share =
     if nat_lt i n then (if nat_lt k most_stated_choices then
     (if nat_lt j n then transition_with i k j share else Err StateOutOfRange) else Err OverLimit)
     else Err StateOutOfRange
 
--- the transition between n states that the numbers of a line say, or the first fault; each has to be a whole number
+-- This is the transition between n states that the numbers of a line say, or the first fault. Each has to be a whole
+-- number.
 abbrev pub transition_said : ℕ → Option ℕ → Option ℕ → Option ℕ → Result Fraction NumberFault
     → Result Transition TraCause
 transition_said n (Some i) (Some k) (Some j) share = transition_within n i k j share
 transition_said n i k j share = Err BadField
 
--- the row of a transition and its action, or the fault of the transition
+-- This is the row of a transition and its action, or the fault of the transition.
 abbrev pub row_with : List ℕ → Result Transition TraCause → Result Row TraCause
 row_with action (Ok transition) = Ok (record { transition = transition; action = action })
 row_with action (Err cause) = Err cause
 
--- the row that the parts of a line say where there are n states, or the first fault; without parts it has too few
--- fields or too many
+-- This is the row that the parts of a line say if there are n states, or the first fault. Without parts, the line has
+-- too few fields or too many.
 abbrev pub parts_said : ℕ → Option LineParts → Result Row TraCause
 parts_said n None = Err FieldCount
 parts_said n (Some parts) = row_with parts.action (transition_said n parts.source parts.choice parts.destination
     (number_said parts.probability))
 
--- what a line says by itself
+-- The line says this row by itself, or has this fault.
 abbrev pub row_said : Header → List (List ℕ) → Result Row TraCause
 row_said header fields = parts_said header.states (line_parts header.choices fields)
 
--- the transition is one of this choice of this state
+-- The transition belongs to choice k of state s.
 abbrev pub is_of : ℕ → ℕ → Transition → Bool
 is_of s k transition = transition.source == s && transition.choice == k
 
--- the action of the first line of a choice
+-- This is the action of the first line of a choice.
 abbrev pub first_action : List Row → ℕ → ℕ → Option (List ℕ)
 first_action rows s k = option_map (λ row. row.action) (slice_get (filter (λ row. is_of s k row.transition) rows) 0)
 
--- the action is another than that of the first line of the choice
+-- The action differs from that of the first line of the choice.
 abbrev pub clashes : List Row → Row → Bool
 clashes before row = option_map_or (λ action. not (bytes_eq action row.action))
     (first_action before row.transition.source row.transition.choice) false
 
--- the row, unless it has another action than the first row of its choice: then this is the fault
+-- The answer is the row, or the fault if its action differs from that of the first row of its choice.
 abbrev pub action_checked : List Row → Result Row TraCause → Result Row TraCause
 action_checked before (Ok row) = if clashes before row then Err
     (ActionClash row.transition.source row.transition.choice) else Ok row
 action_checked before (Err cause) = Err cause
 
--- what a line says behind these rows
+-- The line says this row behind the rows before it, or has this fault.
 abbrev pub line_said : Header → List Row → List (List ℕ) → Result Row TraCause
 line_said header before fields =
     if is_nil fields then Err FieldCount
     else (if nat_lt (length before) header.lines then action_checked before (row_said header fields) else Err
     (LineCount (header.lines + 1) header.lines))
 
--- what comes of the lines behind a line of this number, or its fault
+-- The answer is what the lines behind this row make, or the fault of the line with this number.
 abbrev pub behind : ℕ → Result Row TraCause → (Row → Result (List Row) TraFault) → Result (List Row) TraFault
 behind number (Ok row) more = more row
 behind number (Err cause) more = Err (fault_at number cause)
 
--- all rows, or the first fault: the lines from this number on, behind these rows
+-- These are all rows, or the first fault, if these lines, from this number on, come behind these rows.
 abbrev pub rows_said : Header → ℕ → List Row → List (List ℕ) → Result (List Row) TraFault
 rows_said header number before [] = if nat_lt (length before) header.lines then Err
     (fault_of_all (LineCount (length before) header.lines)) else Ok before

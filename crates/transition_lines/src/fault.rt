@@ -1,22 +1,22 @@
-//! Why a text denotes no game.
+//! This module says why a text denotes no game.
 
 use crate::line::Transition;
 use distributions::ChoiceFault;
 use fractions::NumberFault;
 use std::alloc::{AllocError, AllocFailed};
 
-/// What is wrong.
+/// A cause says what is wrong.
 #[derive(Clone, Copy, Debug, PartialEq, Eq)]
 pub enum TraCause {
     /// Memory ran out.
     OutOfMemory,
     /// The first line is not two or three whole numbers.
     NoHeader,
-    /// A field that must be a whole number is none.
+    /// A field that must be a whole number is not one.
     BadField,
     /// A line has another number of fields than its kind allows.
     FieldCount,
-    /// A number of the header, or the number of a choice, is above its limit.
+    /// A number of the header is above its limit, or the number of a choice is not below its limit.
     OverLimit,
     /// The header states no state.
     NoStates,
@@ -34,12 +34,12 @@ pub enum TraCause {
         read: u32,
         stated: u32,
     },
-    /// The least choice of a state that is missing before a choice that is there.
+    /// This is the least choice of a state that is missing before a choice that is there.
     ChoiceGap {
         state: u32,
         choice: u32,
     },
-    /// A state has more choices than a state may have: the least such state.
+    /// This is the least state with more choices than a state may have.
     TooManyChoices {
         state: u32,
     },
@@ -56,7 +56,7 @@ pub enum TraCause {
     },
 }
 
-/// A cause and its line, counted from 1. Line 0 is the whole text.
+/// A fault is a cause and its line, counted from 1. Line 0 is the whole text.
 #[derive(Clone, Copy, Debug, PartialEq, Eq)]
 pub struct TraFault {
     pub line: u32,
@@ -67,14 +67,14 @@ impl TraFault {
     ghost use Rattle.std.specs.Prelude.{◌≡◌};
     ghost use Rattle.transition_lines.specs.Faults.{fault_at, fault_of_all, fault_of_choice};
 
-    /// A fault of the whole text.
+    /// Returns a fault of the whole text.
     pub fn of_all(cause: TraCause) -> TraFault
         ensures { result ≡ fault_of_all cause }
     {
         TraFault { line: 0, cause }
     }
 
-    /// The fault of a choice, which is of the whole text too.
+    /// Returns the fault of a choice, which belongs to the whole text.
     pub fn of_choice(state: u32, choice: u32, fault: ChoiceFault) -> TraFault
         ensures { result ≡ fault_of_choice state choice fault }
     {
@@ -88,7 +88,7 @@ impl TraFault {
         }
     }
 
-    /// The fault of a line whose action is another than that of the first line of its choice.
+    /// Returns the fault of a line whose action differs from that of the first line of its choice.
     pub fn of_clash(line: u32, transition: &Transition) -> TraFault
         ensures { result ≡ fault_at line (TraCause.ActionClash transition.now.source transition.now.choice) }
     {

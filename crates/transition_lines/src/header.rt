@@ -1,4 +1,4 @@
-//! The first line of a text.
+//! This module reads the first line of a text.
 
 ghost use Rattle.std.specs.Prelude.{◌≡◌, ◌<◌, ℕ, Option, Result, Ok, Err, option_map, IfOk};
 ghost use Rattle.text_lines.specs.Text.{fields_of, number_of, saturated};
@@ -10,7 +10,7 @@ use crate::limits::{MOST_LINES, MOST_STATED_CHOICES};
 use game_model::MOST_STATES;
 use text_lines::{first_field, whole};
 
-/// What the header states: the states, in an MDP the choices of all states, and the transition lines.
+/// A header states the number of states, in an MDP that of the choices of all states, and that of the transition lines.
 #[derive(Clone, Copy, Debug, PartialEq, Eq)]
 pub struct Header {
     pub states: u32,
@@ -67,7 +67,7 @@ fn mdp(states: &[u8], choices: &[u8], lines: &[u8]) -> Result<Header, TraCause>
     checked(n, Some(c), m)
 }
 
-// The header with these numbers.
+// Makes the header of these numbers, or gives its fault.
 fn checked(states: u64, choices: Option<u64>, lines: u64) -> Result<Header, TraCause>
     ensures said { (n m : ℕ) (c : Option ℕ) → states ≡ saturated n → choices ≡ option_map saturated c
         → lines ≡ saturated m → result ≡ header_checked n c m }

@@ -1,4 +1,4 @@
-//! Laws of transition texts. Each function does nothing; its contract is the law.
+//! This module has the laws of transition texts. Each function does nothing: its contract is the law.
 
 ghost use Rattle.std.specs.Prelude.{◌≡◌, ◌↔◌, ◌∷◌, ℕ, List, Ok};
 ghost use Rattle.std.specs.List.Sorted.{IsPermutation};
@@ -15,7 +15,7 @@ pub fn limits()
     ensures most_lines { MOST_LINES ≡ most_lines }
 {}
 
-/// What is said of a text by cases is what it denotes.
+/// A game is said of a text by cases exactly when the text denotes it.
 pub fn said_is_denoted()
     ensures { (text : List ℕ) (game : List (List Distribution)) → (game_of text ≡ Ok game) ↔ DenotesGame text game }
 {
@@ -23,7 +23,7 @@ pub fn said_is_denoted()
     distributions::laws::said_is_denoted();
 }
 
-/// The order of the transition lines plays no part in which game a text denotes.
+/// The order of the transition lines does not change which game a text denotes.
 pub fn order_of_lines()
     ensures { (text other first : List ℕ) (lines others : List (List ℕ)) (game : List (List Distribution)) →
         significant (lines_of text) ≡ first ∷ lines → significant (lines_of other) ≡ first ∷ others

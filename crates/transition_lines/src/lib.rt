@@ -1,10 +1,10 @@
-//! The lines of a transition file, and the game that a text of them denotes.
+//! This crate reads the lines of a transition file, and defines the game that a text of such lines denotes.
 //!
-//! The first line has three whole numbers, states, choices and transition lines, for an MDP, or two, states and lines,
-//! for a DTMC. Each further line is a transition: `source choice destination probability` and an action or none, in a
-//! DTMC without the choice. `read_header` and `read_line` give what a line says, or its first fault. `DenotesGame` of
-//! `specs/Text.antt` says which game a text denotes, and `game_of` the same by cases, with the first fault: `laws` says
-//! that they are one, and that the order of the transition lines plays no part.
+//! The first line of an MDP has three whole numbers: states, choices and transition lines. That of a DTMC has two:
+//! states and lines. Each further line is a transition: `source choice destination probability` and an action or none.
+//! A DTMC's line leaves out the choice. `read_header` and `read_line` give what a line says, or its first fault.
+//! `DenotesGame` of `specs/Text.antt` says which game a text denotes, and `game_of` gives the same by cases, with the
+//! first fault. `laws` says that both agree, and that the order of the transition lines does not matter.
 #![tactic(auto)]
 
 mod fault;

@@ -1,4 +1,4 @@
-//! Transition lines.
+//! This module reads transition lines.
 
 ghost use Rattle.std.specs.Prelude.{◌≡◌, ◌<◌, [], ℕ, Option, Some, Result, Ok, Err, IfOk, option_map};
 ghost use Rattle.text_lines.specs.Text.{fields_of, saturated};
@@ -14,7 +14,7 @@ use distributions::Part;
 use fractions::{Frac, read_number};
 use text_lines::{first_field, first_number};
 
-/// A line: from the source, by its choice, to the destination.
+/// A transition leads from the source, by its choice, to the destination, with the probability `share`.
 #[derive(Clone, Copy, Debug, PartialEq, Eq)]
 pub struct Transition {
     pub source: u32,
@@ -27,14 +27,14 @@ impl Transition {
     ghost use Rattle.transition_lines.specs.Order.{transition_place};
     ghost use Rattle.transition_lines.specs.Choices.{part_of};
 
-    /// The place of the line's choice in the order of all choices.
+    /// Returns the place of the line's choice in the order of all choices.
     pub fn place(&self) -> u64
         ensures { result ≡ transition_place self.now }
     {
         place_at(self.source, self.choice)
     }
 
-    /// The part of its choice.
+    /// Returns the transition's part of its choice.
     pub fn part(&self) -> Part
         ensures { result ≡ part_of self.now }
     {
@@ -45,7 +45,7 @@ impl Transition {
     }
 }
 
-/// The place of a choice in the order of all choices.
+/// Returns the place of a choice in the order of all choices.
 pub fn place_at(state: u32, choice: u32) -> u64
     ensures { result ≡ place_of state choice }
 {
@@ -65,7 +65,7 @@ pub fn read_line<'a>(header: &Header, line: &'a [u8]) -> Result<(Transition, &'a
     }
 }
 
-// `i k j x` or `i k j x a`.
+// Reads a line `i k j x` or `i k j x a`.
 #[inline(always)]
 fn read_mdp_line(states: u32, line: &[u8]) -> Result<(Transition, &[u8]), TraCause>
     ensures said { SaysRow result (parts_said states (mdp_parts (fields_of line.entry.now))) }
@@ -92,7 +92,7 @@ fn read_mdp_line(states: u32, line: &[u8]) -> Result<(Transition, &[u8]), TraCau
     }
 }
 
-// `i j x` or `i j x a`.
+// Reads a line `i j x` or `i j x a`.
 #[inline(always)]
 fn read_dtmc_line(states: u32, line: &[u8]) -> Result<(Transition, &[u8]), TraCause>
     ensures said { SaysRow result (parts_said states (dtmc_parts (fields_of line.entry.now))) }
@@ -116,7 +116,7 @@ fn read_dtmc_line(states: u32, line: &[u8]) -> Result<(Transition, &[u8]), TraCa
     }
 }
 
-// The one field that is left, or no byte where none is; none where more are.
+// Returns the one field that is left, or no byte if none is left. If more are left, the answer is `None`.
 #[inline(always)]
 fn last_field(line: &[u8]) -> Option<&[u8]>
     ensures { IsLastField result (fields_of line.entry.now) }
@@ -132,7 +132,7 @@ fn last_field(line: &[u8]) -> Option<&[u8]>
     }
 }
 
-// The transition with these numbers and this probability.
+// Makes the transition with these numbers and this probability, or gives its first fault.
 #[inline(always)]
 fn transition_of(
     states: u32,

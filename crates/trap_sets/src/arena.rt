@@ -1,4 +1,4 @@
-//! A table over a question.
+//! This module has a table over a question.
 
 ghost use Rattle.std.specs.Prelude.{◌≡◌, ◌≤◌, length, All};
 ghost use Rattle.game_model.specs.Query.{IsQuery, states};
@@ -6,7 +6,7 @@ ghost use Rattle.game_model.specs.Limits.{unit};
 
 use game_model::Question;
 
-/// A question, and for each of its states a number of units.
+/// A table gives each state of a question a number of units.
 #[derive(Clone, Copy)]
 pub struct Table<'q> {
     pub question: &'q Question<'q>,

@@ -1,4 +1,4 @@
-//! Parts whose states do not all reach each other, broken up.
+//! This module breaks up parts whose states do not all reach each other.
 
 ghost use Rattle.std.specs.Prelude.{◌≡◌, ◌≢◌, ℕ, ◌+◌, ◌<◌, ◌≤◌, true, false, length, slice_index, slice_index_or, IfOk, OnOk, IfSome, MatchOption};
 ghost use Rattle.game_model.specs.Limits.{most_states};
@@ -12,14 +12,14 @@ use crate::reach::{Way, reached};
 use game_outside::OutOfMemory;
 use std::alloc::Global;
 
-/// Marks that break up the part of a state.
+/// These marks break up the part of a state.
 #[derive(Drop)]
 struct Break {
     marks: Vec<bool>,
     state: u32,
 }
 
-/// Breaks up a part whose states do not all reach each other. Whether there was one.
+/// Breaks up a part whose states do not all reach each other, and returns whether there was one.
 pub fn break_up(alloc: Global, cut: &Cut<'_>, part: &mut [u32]) -> Result<bool, OutOfMemory>
     requires keeps { KeepsEndsOf cut.now part.old }
     requires rooted { IsRooted part.old }
@@ -37,7 +37,7 @@ pub fn break_up(alloc: Global, cut: &Cut<'_>, part: &mut [u32]) -> Result<bool, 
     }
 }
 
-/// Looks for a part whose states do not all come to its root, or not all from it.
+/// Looks for a part whose root is not reached from all its states, or does not reach them all.
 fn find_break(alloc: Global, cut: &Cut<'_>, part: &[u32]) -> Result<Option<Break>, OutOfMemory>
     requires keeps { KeepsEndsOf cut.now part.now }
     requires rooted { IsRooted part.now }
@@ -49,7 +49,7 @@ fn find_break(alloc: Global, cut: &Cut<'_>, part: &[u32]) -> Result<Option<Break
     Ok(found)
 }
 
-/// Searches back from the roots of all parts, and then on.
+/// Searches back from the roots of all parts, and then on from them.
 fn search_break(alloc: Global, inner: &Inner<'_>) -> Result<Option<Break>, OutOfMemory>
     requires keeps { KeepsEndsOf inner.now.cut inner.now.part.now }
     requires rooted { IsRooted inner.now.part.now }
@@ -67,7 +67,7 @@ fn search_break(alloc: Global, inner: &Inner<'_>) -> Result<Option<Break>, OutOf
     Ok(None)
 }
 
-/// The first state that has a part and no mark.
+/// Returns the first state that has a part and no mark.
 fn first_unmarked(part: &[u32], marks: &[bool]) -> Option<u32>
     requires few { length part.now ≤ most_states }
     requires many { length marks.now ≡ length part.now }
@@ -83,7 +83,7 @@ fn first_unmarked(part: &[u32], marks: &[bool]) -> Option<u32>
     None
 }
 
-/// The states of a state's part that are not marked become a part of their own, named after it.
+/// Makes a part of the unmarked states of a state's part, and names it after this state.
 fn split_off(cut: &Cut<'_>, part: &mut [u32], marks: &[bool], state: u32)
     requires keeps { KeepsEndsOf cut.now part.old }
     requires rooted { IsRooted part.old }

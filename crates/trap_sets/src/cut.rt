@@ -1,4 +1,4 @@
-//! A question whose minimiser plays its replies.
+//! This module has a question whose minimiser plays its replies.
 
 ghost use Rattle.std.specs.Prelude.{◌≡◌, length};
 ghost use Rattle.game_model.specs.Query.{IsQuery, states};
@@ -8,8 +8,7 @@ use crate::choices::stays;
 use game_model::{Question, Side};
 use predecessors::Predecessors;
 
-/// The cut question: a question whose minimiser has at each state its reply alone, and for each state the moves
-/// that lead to it.
+/// In the cut question each state of the minimiser has only its reply. It comes with the moves that lead to each state.
 #[derive(Clone, Copy)]
 pub struct Cut<'a> {
     pub question: &'a Question<'a>,
@@ -26,7 +25,7 @@ impl Cut<'_> {
     ghost use Rattle.trap_sets.specs.Moves.{IsCut};
     ghost use Rattle.trap_sets.specs.inside.OfCut.{states_in, IsInnerIn};
 
-    /// Whether a choice is one of the cut question: at a state of the minimiser its reply alone is.
+    /// Returns whether a choice is one of the cut question. A state of the minimiser has only its reply.
     fn has(&self, state: u32, choice: u32) -> bool
         requires state { state < states_in self.now }
         requires choice { choice < length (choices_of self.now.question.now.game state) }
@@ -41,7 +40,8 @@ impl Cut<'_> {
         }
     }
 
-    /// Whether a choice is inner: one of the cut question, at a state with a part, that stays in this part.
+    /// Returns whether a choice is inner: it is one of the cut question, at a state with a part, and stays in this
+    /// part.
     pub(crate) fn is_inner(&self, part: &[u32], state: u32, choice: u32) -> bool
         requires state { state < states_in self.now }
         requires choice { choice < length (choices_of self.now.question.now.game state) }
@@ -53,7 +53,7 @@ impl Cut<'_> {
             && stays(self.question, part, state, choice)
     }
 
-    /// The first inner choice of a state, from this one on; the number of choices where there is none.
+    /// Returns the first inner choice of a state, from this one on, or the number of choices if there is none.
     pub fn next_inner(&self, part: &[u32], state: u32, from: u32) -> u32
         requires state { state < states_in self.now }
         requires from { from ≤ length (choices_of self.now.question.now.game state) }

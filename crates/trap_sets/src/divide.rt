@@ -1,4 +1,4 @@
-//! Parts, divided into components.
+//! This module divides parts into components.
 
 ghost use Rattle.std.specs.Prelude.{◌≡◌, ℕ, ◌<◌, ◌≤◌, ◌+◌, List, [], ◌∷◌, ◌++◌, length, slice_index, IfOk, OnOk};
 ghost use Rattle.game_model.specs.Limits.{most_states};
@@ -11,7 +11,8 @@ use crate::inner::Inner;
 use game_outside::OutOfMemory;
 use std::alloc::Global;
 
-/// The components of the inner choices of these parts, each named after its first state that has a part.
+/// Divides these parts into the components of their inner choices. Each component is named after its first state that
+/// has a part.
 pub fn divided(alloc: Global, cut: &Cut<'_>, part: &[u32]) -> Result<Vec<u32>, OutOfMemory>
     requires keeps { KeepsEndsOf cut.now part.now }
     ensures keeps { IfOk result (λ class. KeepsEndsOf cut.now class.items) }
@@ -22,7 +23,7 @@ pub fn divided(alloc: Global, cut: &Cut<'_>, part: &[u32]) -> Result<Vec<u32>, O
     Ok(class)
 }
 
-/// The components of these inner choices, named.
+/// Names the components of these inner choices.
 fn classes(alloc: Global, inner: &Inner<'_>) -> Result<Vec<u32>, OutOfMemory>
     requires keeps { KeepsEndsOf inner.now.cut inner.now.part.now }
     ensures keeps { IfOk result (λ class. KeepsEndsOf inner.now.cut class.items) }
@@ -33,6 +34,31 @@ fn classes(alloc: Global, inner: &Inner<'_>) -> Result<Vec<u32>, OutOfMemory>
     let mut class = Vec::new(alloc);
     name_all(&component, inner.part, &mut names, &mut class)?;
     Ok(class)
+}
+
+/// Names each part after its first state. Removal may have taken the state after which it was named.
+pub fn renamed(alloc: Global, cut: &Cut<'_>, part: &[u32]) -> Result<Vec<u32>, OutOfMemory>
+    requires keeps { KeepsEndsOf cut.now part.now }
+    ensures keeps { IfOk result (λ class. KeepsEndsOf cut.now class.items) }
+    ensures rooted { IfOk result (λ class. IsRooted class.items) }
+{
+    let _ = cut;
+    let greatest = greatest_of(part);
+    let mut names = vec![in alloc; 0u32; greatest as usize + 1]?;
+    let mut class = Vec::new(alloc);
+    name_all(part, part, &mut names, &mut class)?;
+    Ok(class)
+}
+
+/// Returns the greatest number of a list, or 0 if the list is empty.
+fn greatest_of(part: &[u32]) -> u32
+    ensures { (s : ℕ) → s < length part.now → slice_index part.now s ≤ result }
+{
+    let mut greatest: u32 = 0;
+    for number in part {
+        greatest = greatest.max(*number);
+    }
+    greatest
 }
 
 /// Gives each state that has a part the name of its component.
@@ -54,8 +80,8 @@ fn name_all(
     Ok(())
 }
 
-/// The name of a state's component: one more than the first state of it that has a part. A state without a part has no
-/// name.
+/// Returns the name of a state's component: one more than its first state that has a part. A state without a part has
+/// no name.
 fn name_of(component: &[u32], part: &[u32], state: u32, names: &mut [u32]) -> u32
     requires many { length component.now ≡ length part.now }
     requires state { state < length part.now }

@@ -1,4 +1,4 @@
-//! The inner choices of given parts, found once.
+//! This module finds the inner choices of given parts, once.
 
 ghost use Rattle.std.specs.Prelude.{◌≡◌, ◌<◌, length};
 ghost use Rattle.game_model.specs.Game.{choices_of};
@@ -13,7 +13,8 @@ use game_outside::OutOfMemory;
 use predecessors::ChoiceFlags;
 use std::alloc::Global;
 
-/// The parts of a cut question, and for each choice, in the order of the game, whether it is inner.
+/// The parts of a cut question come with a flag for each choice, in the order of the game, that says whether it is
+/// inner.
 #[derive(Drop)]
 pub struct Inner<'a> {
     pub cut: Cut<'a>,
@@ -27,7 +28,7 @@ impl<'a> Inner<'a> {
     ghost use Rattle.std.specs.Prelude.{ℕ, ◌≤◌, ◌↔◌, IsTrue, IfOk, slice_index};
     ghost use Rattle.trap_sets.specs.inside.OfInner.{states_of, LeadsOf, IsInnerOf};
 
-    /// The inner choices of these parts. Each choice is tested once.
+    /// Finds the inner choices of these parts. Each choice is tested once.
     pub fn of_parts(alloc: Global, cut: &Cut<'a>, part: &'a [u32]) -> Result<Inner<'a>, OutOfMemory>
         requires { length part.now ≡ states_in cut.now }
         ensures cut { IfOk result (λ inner. inner.cut ≡ cut.now) }
@@ -43,7 +44,7 @@ impl<'a> Inner<'a> {
         })
     }
 
-    /// For each state the number of its component over the inner choices.
+    /// Gives each state the number of its component over the inner choices.
     pub fn components(&self, alloc: Global) -> Result<Vec<u32>, OutOfMemory>
         ensures many { IfOk result (λ l. length l.items ≡ states_of self.now) }
         ensures below { IfOk result (λ l. (s : ℕ) → s < states_of self.now
@@ -54,7 +55,7 @@ impl<'a> Inner<'a> {
         component_numbers(alloc, self.cut.question, &self.flags)
     }
 
-    /// Whether a choice is inner.
+    /// Returns whether a choice is inner.
     pub fn has(&self, state: u32, choice: u32) -> bool
         requires state { state < states_of self.now }
         requires choice { choice < length (choices_of self.now.cut.question.now.game state) }

@@ -1,4 +1,4 @@
-//! Upper tables lowered to the best exits of traps.
+//! This module lowers upper tables to the best exits of traps.
 
 ghost use Rattle.std.specs.Prelude.{◌≡◌, ◌≢◌, ℕ, ◌+◌, ◌<◌, ◌≤◌, length, slice_index, All, IfOk};
 ghost use Rattle.game_model.specs.Game.{choices_of};
@@ -22,9 +22,9 @@ use inductive_check::laws::replies_hold;
 use predecessors::Predecessors;
 use std::alloc::Global;
 
-/// The table, lowered at the states of each trap to the trap's best exit over the table handed in. It passes
-/// the check that the table passed, with the same replies, so it is above every k-step value. The only error
-/// is want of memory.
+/// Lowers the table at the states of each trap to the trap's best exit over the given table. The lowered table passes
+/// the check that the table passed, with the same replies, so it is above every k-step value. The only error is that
+/// memory ran out.
 pub fn lower_traps(
     alloc: Global,
     question: &Question,
@@ -49,8 +49,8 @@ pub fn lower_traps(
     lower_traps_over(alloc, question, &predecessors, upper, replies)
 }
 
-/// The lowered table, as [`lower_traps`] gives it, over lists of predecessors that the caller has. The only
-/// error is want of memory.
+/// Lowers the table as [`lower_traps`] does, over lists of predecessors that the caller has. The only error is that
+/// memory ran out.
 pub fn lower_traps_over(
     alloc: Global,
     question: &Question,
@@ -86,7 +86,7 @@ pub fn lower_traps_over(
     Ok(table)
 }
 
-/// For each trap its best exit.
+/// Returns the best exit of each trap.
 fn best_exits(alloc: Global, upper: &Table<'_>, sets: &TrapSets) -> Result<Vec<u64>, OutOfMemory>
     requires many { length sets.now.of.items ≡ states upper.now.question.now }
     requires most { (s : ℕ) → slice_index sets.now.of.items s ≤ sets.now.count }
@@ -101,7 +101,7 @@ fn best_exits(alloc: Global, upper: &Table<'_>, sets: &TrapSets) -> Result<Vec<u
     Ok(exits)
 }
 
-/// Raises the exit of the trap of a state to those of the state.
+/// Raises the best exit of the trap of a state to the exits of the state.
 fn raise_exit(upper: &Table<'_>, of: &[u32], state: u32, exits: &mut [u64])
     requires many { length of.now ≡ states upper.now.question.now }
     requires most { slice_index of.now state < length exits.old }
@@ -127,7 +127,7 @@ fn raise_exit(upper: &Table<'_>, of: &[u32], state: u32, exits: &mut [u64])
     }
 }
 
-/// Each entry, in a trap at most its best exit.
+/// Returns the table in which each entry of a trap is at most the best exit.
 fn lowered(
     alloc: Global,
     upper: &Table<'_>,
@@ -146,7 +146,7 @@ fn lowered(
     Ok(table)
 }
 
-/// The entry of a state, in a trap at most its best exit.
+/// Returns the entry of a state, and in a trap at most the best exit.
 fn lowered_entry(upper: &Table<'_>, of: &[u32], exits: &[u64], state: u32) -> u64
     requires many { length of.now ≡ states upper.now.question.now }
     requires most { (s : ℕ) → slice_index of.now s < length exits.now }

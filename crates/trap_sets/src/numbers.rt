@@ -1,4 +1,4 @@
-//! Traps, numbered.
+//! This module numbers the traps.
 
 ghost use Rattle.std.specs.Prelude.{◌≡◌, ◌+◌, ◌<◌, ◌≤◌, length, IfOk};
 ghost use Rattle.game_model.specs.Limits.{most_states};
@@ -16,21 +16,21 @@ use game_outside::OutOfMemory;
 use predecessors::Predecessors;
 use std::alloc::Global;
 
-/// The traps of a question: sets of states, none of them goal or dead, in which play can stay for ever and come
-/// from each state to each other, and that lie in no larger such set. They are the greatest end components (de
-/// Alfaro, Formal verification of probabilistic systems, 1997, chapter 3) of the question in which the minimiser
-/// plays its replies.
+/// A trap of a question is a set of states, none of them goal or dead, in which play can stay for ever and come from
+/// each state to each other, and that lies in no larger such set. The traps are the greatest end components (de Alfaro,
+/// Formal verification of probabilistic systems, 1997, chapter 3) of the question in which the minimiser plays its
+/// replies.
 #[derive(Drop)]
 pub struct TrapSets {
-    /// The trap of each state, numbered from 1 by least state; 0 where it is in none.
+    /// This is the trap of each state, numbered from 1 by least state, and 0 if the state is in none.
     pub of: Vec<u32>,
-    /// How many traps there are.
+    /// This is the number of traps.
     pub count: u32,
 }
 
-/// The traps of a question whose minimiser plays these replies: exactly the greatest end components, numbered by
-/// least state, so every end component lies in one. The replies of other states are not read; a state of the
-/// minimiser with no reply in range is in no trap. The only error is want of memory.
+/// Finds the traps of a question whose minimiser plays these replies. They are exactly the greatest end components,
+/// numbered by least state, so every end component lies in one. The replies of other states are not read, and a state
+/// of the minimiser with no reply in range is in no trap. The only error is that memory ran out.
 pub fn traps(
     alloc: Global,
     question: &Question,
@@ -43,8 +43,8 @@ pub fn traps(
     traps_over(alloc, question, &predecessors, replies)
 }
 
-/// The traps, as [`traps`] gives them, over lists of predecessors that the caller has. The only error is want of
-/// memory.
+/// Finds the traps as [`traps`] does, over lists of predecessors that the caller has. The only error is that memory ran
+/// out.
 pub fn traps_over(
     alloc: Global,
     question: &Question,
@@ -65,7 +65,7 @@ pub fn traps_over(
     numbered(alloc, &cut, &part)
 }
 
-/// The parts, numbered by their least states, which are their roots.
+/// Numbers the parts by their least states, which are their roots.
 fn numbered(alloc: Global, cut: &Cut<'_>, part: &[u32]) -> Result<TrapSets, OutOfMemory>
     requires { AreSettledOf cut.now part.now }
     ensures { IfOk result (λ sets. AreTraps cut.now.question.now cut.now.replies.now sets.of.items sets.count) }
@@ -75,7 +75,7 @@ fn numbered(alloc: Global, cut: &Cut<'_>, part: &[u32]) -> Result<TrapSets, OutO
     Ok(sets)
 }
 
-/// For each state the number of its part, and how many parts there are.
+/// Returns the number of each state's part, and how many parts there are.
 fn number_all(alloc: Global, part: &[u32]) -> Result<TrapSets, OutOfMemory>
     requires few { length part.now ≤ most_states }
     requires rooted { IsRooted part.now }
@@ -93,8 +93,8 @@ fn number_all(alloc: Global, part: &[u32]) -> Result<TrapSets, OutOfMemory>
     Ok(TrapSets { of, count })
 }
 
-/// The number of the part of the next state, where those of the states before it are found, and the roots up to it are
-/// counted.
+/// Returns the number of the part of the next state. The numbers of the states before it are found, and the roots up to
+/// it are counted.
 fn number_of(part: &[u32], of: &[u32], state: usize, count: u32) -> u32
     requires state { state < length part.now }
     requires rooted { IsRooted part.now }

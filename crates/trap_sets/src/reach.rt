@@ -1,4 +1,4 @@
-//! Searches from the roots of all parts at once.
+//! This module searches from the roots of all parts at once.
 
 ghost use Rattle.std.specs.Prelude.{◌≡◌, ℕ, ◌+◌, ◌<◌, true, false, length, slice_index, slice_index_or, IfOk, OnOk};
 ghost use Rattle.attractors.specs.Growing.{IsOrder};
@@ -12,14 +12,14 @@ use game_outside::OutOfMemory;
 use predecessors::Move;
 use std::alloc::Global;
 
-/// Which way a search goes: on along inner choices, or back against them.
+/// A search goes on along inner choices, or back against them.
 #[derive(Clone, Copy)]
 pub enum Way {
     On,
     Back,
 }
 
-/// The marked states, and these in the order in which they were met.
+/// A search has the marked states, and lists them in the order in which they were met.
 #[derive(Drop)]
 struct Search {
     marks: Vec<bool>,
@@ -41,7 +41,7 @@ pub fn reached(alloc: Global, inner: &Inner<'_>, way: Way) -> Result<Vec<bool>, 
 }
 
 impl Search {
-    /// The roots alone.
+    /// Marks only the roots.
     fn of_roots(alloc: Global, inner: &Inner<'_>) -> Result<Search, OutOfMemory>
         ensures { IfOk result (λ r. (way : Way) → IsReaching inner.now way r.marks.items r.order.items 0) }
     {
@@ -106,7 +106,7 @@ impl Search {
         Ok(())
     }
 
-    /// Marks the states to which a choice leads, where it is inner.
+    /// Marks the states to which a choice leads, if it is inner.
     fn follow(&mut self, inner: &Inner<'_>, step: Move) -> Result<(), OutOfMemory>
         requires ordered { IsOrder self.old.marks.items self.old.order.items }
         requires many { length self.old.marks.items ≡ states_of inner.now }
@@ -147,7 +147,7 @@ impl Search {
         Ok(())
     }
 
-    /// Marks the state of a choice, where it is inner.
+    /// Marks the state of a choice, if it is inner.
     fn meet(&mut self, inner: &Inner<'_>, step: Move) -> Result<(), OutOfMemory>
         requires ordered { IsOrder self.old.marks.items self.old.order.items }
         requires many { length self.old.marks.items ≡ states_of inner.now }

@@ -1,4 +1,4 @@
-//! Rounds that divide the states into end components.
+//! This module divides the states into end components, in rounds.
 
 ghost use Rattle.std.specs.Prelude.{◌≡◌, ◌<◌, ◌↔◌, length, IsTrue, IfOk, OnOk};
 ghost use Rattle.game_model.specs.Query.{states};
@@ -14,8 +14,8 @@ use game_model::Question;
 use game_outside::OutOfMemory;
 use std::alloc::Global;
 
-/// The greatest parts that are end components. The first loop finds them: each of its rounds takes a state out or
-/// breaks up a part. The second one, which ends whatever the searches do, then has nothing to do.
+/// Returns the greatest parts that are end components. The first loop finds them: each of its rounds takes a state out
+/// or breaks up a part. The second loop, which ends whatever the searches do, then has nothing to do.
 pub fn settled_parts(alloc: Global, cut: &Cut<'_>) -> Result<Vec<u32>, OutOfMemory>
     ensures { IfOk result (λ part. AreSettledOf cut.now part.items) }
 {
@@ -47,7 +47,7 @@ fn break_all(alloc: Global, cut: &Cut<'_>, part: &mut [u32]) -> Result<(), OutOf
     Ok(())
 }
 
-/// The parts without the states that have no inner choice, each of which is alone in its part.
+/// Returns the parts without the states that have no inner choice. Each of these is the only one in its part.
 fn without_exits(alloc: Global, cut: &Cut<'_>, part: &[u32]) -> Result<Vec<u32>, OutOfMemory>
     requires keeps { KeepsEndsOf cut.now part.now }
     requires rooted { IsRooted part.now }
@@ -62,7 +62,7 @@ fn without_exits(alloc: Global, cut: &Cut<'_>, part: &[u32]) -> Result<Vec<u32>,
     Ok(kept)
 }
 
-/// The part of a state that has an inner choice, and none for any other.
+/// Returns the part of a state that has an inner choice, and none for any other state.
 fn kept_part(cut: &Cut<'_>, part: &[u32], state: u32) -> u32
     requires state { state < states_in cut.now }
     requires many { length part.now ≡ states_in cut.now }
@@ -75,7 +75,7 @@ fn kept_part(cut: &Cut<'_>, part: &[u32], state: u32) -> u32
     }
 }
 
-/// One part of all states that are neither goal nor dead.
+/// Makes one part of all states that are neither goal nor dead.
 fn opening(alloc: Global, cut: &Cut<'_>) -> Result<Vec<u32>, OutOfMemory>
     ensures { IfOk result (λ part. KeepsEndsOf cut.now part.items) }
 {
@@ -90,7 +90,7 @@ fn opening(alloc: Global, cut: &Cut<'_>) -> Result<Vec<u32>, OutOfMemory>
     Ok(part)
 }
 
-/// Whether a state is neither goal nor dead.
+/// Returns whether a state is neither goal nor dead.
 fn is_free(question: &Question, state: u32) -> bool
     requires { state < states question.now }
     ensures { IsTrue result ↔ IsFree question.now state }

@@ -1,4 +1,4 @@
-//! Removal of states that have no inner choice, as far as a search finds them.
+//! This module removes states that have no inner choice, as far as a search finds them.
 
 ghost use Rattle.std.specs.Prelude.{◌≡◌, ◌<◌, length, OnOk};
 ghost use Rattle.trap_sets.specs.inside.OfCut.{states_in, KeepsEndsOf};
@@ -9,8 +9,8 @@ use predecessors::Move;
 use std::alloc::Global;
 
 /// Takes its part from each state that has no inner choice, and from each that has none left then, and so on. A state
-/// waits for one choice at a time, so each choice is tested three times at most. That all such states are found is no
-/// part of the contract: one that is not goes later.
+/// waits for one choice at a time, so each choice is tested three times at most. The contract does not say that all
+/// such states are found. One that is missed goes later.
 pub fn trim(alloc: Global, cut: &Cut<'_>, part: &mut [u32]) -> Result<(), OutOfMemory>
     requires keeps { KeepsEndsOf cut.now part.old }
     ensures keeps { OnOk result (KeepsEndsOf cut.now part.new) }
@@ -52,7 +52,7 @@ fn follow_gone(
     Ok(())
 }
 
-/// Tests the state of this move, where it waits for its choice.
+/// Tests the state of this move, if it waits for its choice.
 fn test_again(
     cut: &Cut<'_>,
     step: Move,
@@ -72,8 +72,8 @@ fn test_again(
     test(cut, step.state, part, awaited, gone)
 }
 
-/// Tests a state from its awaited choice on: it waits for the next inner one, and loses its part where it has none at
-/// all.
+/// Tests a state from its awaited choice on. The state waits for the next inner choice, and loses its part if it has
+/// none at all.
 fn test(
     cut: &Cut<'_>,
     state: u32,

@@ -1,12 +1,12 @@
-//! The excesses over the lower table.
+//! This module gives the excesses over the lower table.
 
 ghost use Rattle.std.specs.Prelude.{◌≡◌, ◌^◌, ◌≤◌};
 ghost use Rattle.upper_guess.specs.Guess.{excess, last_place};
 
-/// The place of the last excess.
+/// This is the place of the last excess.
 pub const LAST_PLACE: u32 = 51;
 
-/// The excess at a place: 0, 1, 2, 4, and so on.
+/// Returns the excess at a place: 0, 1, 2, 4, and so on.
 pub fn excess_at(place: u32) -> u64
     requires { place ≤ last_place }
     ensures value { result ≡ excess place }

@@ -1,4 +1,4 @@
-//! Laws of the guesses. Each function does nothing; its contract is the law.
+//! This module has the laws of the guesses. Each function does nothing: its contract is the law.
 
 ghost use Rattle.std.specs.Prelude.{◌≡◌, ℕ, ◌+◌, ◌^◌, ◌<◌, List, Bool};
 ghost use Rattle.game_model.specs.Query.{Query};
@@ -21,8 +21,8 @@ pub fn excesses()
     ensures last { unit < excess last_place }
 {}
 
-/// There is at most one first guess: it does not depend on which tables were made, or at which state a table was
-/// seen to be refused.
+/// There is at most one first guess: it does not depend on which tables were made, or at which state a table was seen
+/// to be refused.
 pub fn one_first_guess()
     ensures { (q : Query) (marks : List Bool) (lower : ℕ → ℕ) (table other : List ℕ) → IsFirstGuess q marks lower table
         → IsFirstGuess q marks lower other → table ≡ other }

@@ -1,17 +1,16 @@
-//! The guess of optimistic value iteration: an upper table from a lower one (Hartmanns and Kaminski,
+//! This crate makes the guess of optimistic value iteration: an upper table from a lower one (Hartmanns and Kaminski,
 //! Optimistic value iteration, CAV 2020).
 //!
-//! [`guess`] tries tables one after another, by rising excess over the lower table and then by up steps, and
-//! gives the first whose own up step is nowhere above it. Such a table is inductive, so it is above every
-//! k-step value. The last excess is above the unit, and its first table is always accepted: some table is
-//! found for every lower table.
+//! [`guess`] tries tables one after another, by rising excess over the lower table and then by up steps, and gives the
+//! first whose own up step is nowhere above it. Such a table is inductive, so no k-step value is above it. The last
+//! excess is above the unit, and its first table is always accepted: some table is found for every lower table.
 //!
-//! A table is made only where it is not seen to be refused at one state: the one that rose most from the last
-//! table of as many up steps that was made. Its entry and the up value there are found by recursion over the
-//! choices. How near the guess comes to the values, and how long it takes, no clause says.
+//! A table is made only if it is not seen to be refused at one state: the one that rose most from the last table of as
+//! many up steps that was made. Its entry and the up value there are found by recursion over the choices. No clause
+//! says how near the guess comes to the values, or how long it takes.
 //!
-//! [`guess`] is made by one worker. [`guess_with`] takes who makes the up steps of whole tables ([`UpTables`]), so that
-//! several workers can; it is the same guess.
+//! [`guess`] works with one worker. [`guess_with`] takes a maker of the up steps of whole tables ([`UpTables`]), so
+//! that several workers can make them; it gives the same guess.
 #![tactic(auto)]
 
 ghost use Rattle.std.specs.Prelude.{◌≡◌, ◌≤◌, length, slice_index, All, IfOk};
@@ -40,8 +39,8 @@ use std::alloc::Global;
 pub use tables::{Alone, UpTables};
 pub use witnesses::Witnesses;
 
-/// The first guess that is accepted: by excess and then by up steps the first table whose up step is nowhere
-/// above it. The only error is want of memory.
+/// Returns the first guess that is accepted: by excess and then by up steps the first table whose up step is nowhere
+/// above it. The only error is that memory ran out.
 pub fn guess<'a>(
     alloc: Global,
     question: &'a Question<'a>,
@@ -68,8 +67,8 @@ pub fn guess<'a>(
     )
 }
 
-/// The same guess, whose tables are made by this maker. The states that refused the last one of this question are
-/// looked at first, and those that refuse this one take their places.
+/// Returns the same guess, from tables that this maker makes. The states that refused the last guess of this question
+/// are looked at first, and those that refuse this guess take their places.
 pub fn guess_with<'a, M: UpTables>(
     maker: &M,
     alloc: Global,

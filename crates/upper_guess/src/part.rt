@@ -1,4 +1,4 @@
-//! The part of a table that one worker fills.
+//! This module fills the part of a table that one worker has.
 
 ghost use Rattle.std.specs.Prelude.{◌≡◌, ◌+◌, ◌<◌, ◌≤◌, length, All, false};
 ghost use Rattle.game_model.specs.Query.{states};
@@ -8,10 +8,10 @@ ghost use Rattle.upper_guess.specs.Parts.{IsFilled};
 use fixed_bellman::up_state;
 use game_model::{Question, UNIT};
 
-/// How many states are stepped between two looks ahead.
+/// This many states are stepped between two looks ahead.
 const STRETCH: usize = 64;
 
-/// The most states whose table stays near the processor: with more, looking ahead pays.
+/// The table of this many states stays near the processor. With more states, it pays to look ahead.
 const MOST_NEAR: u32 = 262_144;
 
 /// Fills a part of the next table with the up steps of the states in a row from `first` on.
@@ -34,7 +34,7 @@ pub fn fill_part(question: &Question, table: &[u64], first: u32, part: &mut [u64
 }
 
 /// Reads the entries of the successors of a stretch of states, so that the memory fetches them at once. No entry is
-/// above the unit, so it answers no; since the part would end at a yes, the compiler keeps the reads.
+/// above the unit, so it answers no. The compiler keeps the reads, because the part would end at a yes.
 fn look_ahead(question: &Question, table: &[u64], from: u32, to: u32) -> bool
     requires table { length table.now ≡ states question.now }
     requires units { All (λ v. v ≤ unit) table.now }
@@ -46,7 +46,7 @@ fn look_ahead(question: &Question, table: &[u64], from: u32, to: u32) -> bool
     game.states() > MOST_NEAR && has_excess(table, game.successors_between(from, to))
 }
 
-/// Whether an entry of these states is above the unit.
+/// Returns whether an entry of these states is above the unit.
 fn has_excess(table: &[u64], wanted: &[u32]) -> bool
     requires inside { All (λ s. s < length table.now) wanted.now }
     requires units { All (λ v. v ≤ unit) table.now }
@@ -60,7 +60,7 @@ fn has_excess(table: &[u64], wanted: &[u32]) -> bool
     false
 }
 
-/// The up steps of the states from place `from` to place `to` of a part that has those below `from`.
+/// Fills in the up steps of the states from place `from` to place `to` of a part that has those below `from`.
 fn fill_stretch(
     question: &Question,
     table: &[u64],

@@ -1,4 +1,4 @@
-//! Tables by state, and their up steps.
+//! This module takes the up steps of tables.
 
 ghost use Rattle.std.specs.Prelude.{◌≡◌, ◌≤◌, length, slice_index, All, IfOk, MatchOption};
 ghost use Rattle.game_model.specs.Query.{states};
@@ -13,9 +13,9 @@ use game_model::Question;
 use game_outside::OutOfMemory;
 use std::alloc::Global;
 
-/// Who fills tables with up steps: one worker, or several. The steps are the same.
+/// One worker or several fill tables with up steps. The steps are the same.
 pub trait UpTables {
-    // What the workers need to work at once.
+    // The workers need this to work at the same time.
     ghost can_fill: { Type 0 };
 
     /// Fills the next table with the up step of a table.
@@ -27,7 +27,7 @@ pub trait UpTables {
         ensures { IsFilled question.now table.now 0 (states question.now) next.new };
 }
 
-/// One worker.
+/// One worker fills the tables.
 #[derive(Drop)]
 pub struct Alone {}
 
@@ -39,7 +39,7 @@ impl UpTables for Alone {
     }
 }
 
-/// The up step of a table, filled by this maker.
+/// Returns the up step of a table, filled by this maker.
 pub fn up_table<M: UpTables>(
     maker: &M,
     alloc: Global,
@@ -56,7 +56,7 @@ pub fn up_table<M: UpTables>(
     Ok(next)
 }
 
-/// The state that rises most from one table to the next; none where no state rises.
+/// Returns the state that rises most from one table to the next, or none if no state rises.
 pub fn most_raised(question: &Question, table: &[u64], next: &[u64]) -> Option<u32>
     requires table { length table.now ≡ states question.now }
     requires next { length next.now ≡ states question.now }

@@ -1,12 +1,12 @@
-//! Where the last tables were refused.
+//! This module remembers where the last tables were refused.
 
 use crate::guesses::MOST_STEPS;
 
-/// For each number of up steps a state to look at first: the one that rose most from the last table of so many that was
-/// made and refused. They change how long a guess takes, and not which it is.
+/// For each number of up steps there is a state to look at first: the one that rose most from the last table of that
+/// many up steps that was made and refused. The states change how long a guess takes, and not which it is.
 #[derive(Drop)]
 pub struct Witnesses {
-    /// The states, by up steps.
+    /// These are the states, by up steps.
     pub(crate) states: [u32; MOST_STEPS as usize + 1],
 }
 
@@ -15,7 +15,7 @@ impl Witnesses {
     ghost use Rattle.game_model.specs.Query.{states};
     ghost use Rattle.upper_guess.specs.Guess.{AreWitnesses};
 
-    /// The first state for each, before any guess.
+    /// Takes the first state for each number of up steps, before any guess.
     pub fn none() -> Witnesses
         ensures { (q : _) → 0 < states q → AreWitnesses q result.states }
     {

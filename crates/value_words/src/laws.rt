@@ -1,4 +1,4 @@
-//! Laws of the shared words: what a table goes through is what the core `step_core` goes through. Each
+//! This module has the laws of the shared words: each step of a table is an event of the core `step_core`. Each
 //! function does nothing: its contract is the law.
 
 ghost use Rattle.std.specs.Prelude.{◌≡◌, ◌≢◌, ℕ, ◌<◌, List, slice_index};

@@ -1,4 +1,4 @@
-//! The right to step on a table.
+//! This module has the right to take steps on a table.
 
 ghost use Rattle.std.specs.Prelude.{◌≡◌, ℕ, ◌<◌, ◌≤◌, [], length, true};
 ghost use Rattle.game_model.specs.Query.{states, is_goal};
@@ -9,7 +9,7 @@ use crate::rule::{Posing, Sight};
 use atomic_table::Seat;
 use std::marker::PhantomData;
 
-/// The right to step on a table, with what was seen of its words. It takes no bytes.
+/// A pass is the right to take steps on a table, with what was seen of its words. It takes no bytes.
 #[derive(Drop)]
 pub struct Pass<P: Posing> {
     pub(crate) seat: Seat<(), Sight>,

@@ -1,10 +1,10 @@
-//! The rule of the words, and what each step tells.
+//! This module has the rule of the words, and what each step tells.
 
 use atomic_table::{Join, Play, Split, TableRule};
 use std::collections::LinkedList;
 use std::marker::{Brand, PhantomData};
 
-/// Names the question of a table, for contracts alone. Each call of a program picks one.
+/// Names the question of a table, only for contracts. Each call of a program picks one.
 pub trait Posing {
     ghost use Rattle.game_model.specs.Query.{Query};
 
@@ -17,8 +17,8 @@ impl Posing for Brand {
     ghost posed = { no_question };
 }
 
-/// What a pass has seen of each word, how many exchanges it has won, and how many of all parts it has, by
-/// which a pass is known to be the only one. No value of it is made.
+/// A sight is what a pass has seen of each word, how many exchanges it has won, and how many of all parts it has. The
+/// parts show that a pass is the only one. No value of this type is made.
 pub struct Sight {
     pub live: bool,
     pub seen: LinkedList<u64>,
@@ -26,7 +26,7 @@ pub struct Sight {
     pub parts: u64,
 }
 
-/// The rule of the words of a question.
+/// This is the rule of the words of a question.
 pub struct Rising<P: Posing> {
     posing: PhantomData<P>,
 }
@@ -39,7 +39,7 @@ impl<P: Posing> TableRule<(), Sight, ()> for Rising<P> {
     ghost first = { λ _. opening_sight P.posed };
 }
 
-/// A load.
+/// The step is a load.
 pub struct Loading;
 
 impl Play<(), Sight> for Loading {
@@ -48,7 +48,7 @@ impl Play<(), Sight> for Loading {
     ghost then = { Loaded };
 }
 
-/// An exchange, which is won or lost.
+/// The step is an exchange, which is won or lost.
 pub struct Exchanging;
 
 impl Play<(), Sight> for Exchanging {
@@ -57,7 +57,7 @@ impl Play<(), Sight> for Exchanging {
     ghost then = { WonOrLost };
 }
 
-/// A split of a view, and a join of two.
+/// The step is a split of a view, or a join of two.
 pub struct Sharing;
 
 impl Split<Sight> for Sharing {

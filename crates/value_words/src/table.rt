@@ -1,4 +1,4 @@
-//! The table, and its steps.
+//! This module has the table, and its steps.
 
 ghost use Rattle.std.specs.Prelude.{◌≡◌, ◌≢◌, ℕ, ◌+◌, ◌/◌, ◌<◌, ◌≤◌, ◌⊎◌, true, false, length, slice_index, slice_set, All, IfOk, MatchBool};
 ghost use Rattle.game_model.specs.Query.{Query, IsQuery, states, is_goal, is_dead};
@@ -19,10 +19,10 @@ use std::alloc::Global;
 use std::marker::{Model, PhantomData};
 use step_core::{opening_words, pack, value_of};
 
-/// So many words lie in the caches of a processor, whatever is read between.
+/// This many words stay in the caches of a processor, whatever is read between.
 const MOST_NEAR: u32 = 262_144;
 
-/// The shared words of a question, under a rule.
+/// These are the shared words of a question, under a rule.
 #[derive(Drop)]
 pub struct Ruled<'q, Q: TableRule<(), Sight, ()>, P: Posing> {
     table: Table<(), Sight, (), Q, Global>,
@@ -34,10 +34,10 @@ pub struct Ruled<'q, Q: TableRule<(), Sight, ()>, P: Posing> {
     ghost bare: { table.shared.table_id.slots ≡ 0 },
 }
 
-/// The shared words of a question, whose invariant holds between any two steps.
+/// These are the shared words of a question, whose invariant holds between any two steps.
 pub type ValueTable<'q, P> = Ruled<'q, Rising<P>, P>;
 
-/// The words of a table that was closed, one for each state.
+/// These are the words of a table that was closed, one for each state.
 #[derive(Drop)]
 pub struct Words {
     words: Vec<u64>,
@@ -52,7 +52,7 @@ impl Model for Words {
 }
 
 impl Words {
-    /// The words, by state.
+    /// Returns the words, by state.
     pub fn as_slice(&self) -> &[u64]
         ensures { result.now ≡ self.now }
     {
@@ -65,7 +65,7 @@ impl<'q, P: Posing> ValueTable<'q, P> {
     ghost use Rattle.value_words.specs.Rule.{all_parts, other_half};
     ghost use Rattle.value_words.specs.Steps.{IsOffer};
 
-    /// The opening words, and the one pass that has seen them.
+    /// Returns the opening words, and the one pass that has seen them.
     pub fn start(
         alloc: Global,
         question: &'q Question<'q>,
@@ -92,15 +92,15 @@ impl<'q, P: Posing> ValueTable<'q, P> {
         }
     }
 
-    /// The question.
+    /// Returns the question.
     pub fn question(&self) -> &'q Question<'q>
         ensures { result.now ≡ P.posed }
     {
         self.question
     }
 
-    /// Raises the word of a state to its step over the words, where that is greater. Whether an exchange
-    /// of this call won.
+    /// Raises the word of a state to its step over the words, if that is greater. Returns whether an exchange of this
+    /// call won.
     pub fn update(&self, pass: &mut Pass<P>, state: u32) -> bool
         requires pass { IsOf self.now pass.old }
         requires state { state < states P.posed }
@@ -109,10 +109,10 @@ impl<'q, P: Posing> ValueTable<'q, P> {
         ensures step { down_step P.posed (seen_by pass.old) state ≤ seen_by pass.new state }
         ensures won { MatchBool result (won_by pass.new ≡ won_by pass.old + 1) (won_by pass.new ≡ won_by pass.old) }
         ensures parts { parts_of pass.new ≡ parts_of pass.old }
-        // A word that this call exchanged names the first choice with its value.
+        // A word that this call wrote names the first choice with its value.
         ensures first { result ≡ true → NamesFirst P.posed (seen_by pass.old) state
             (slice_index (words_seen pass.new) state) }
-        // At a goal or a dead state nothing is done.
+        // At a goal or a dead state nothing changes.
         ensures fixed { (is_goal P.posed state ≡ true) ⊎ (is_dead P.posed state ≡ true)
             → (result ≡ false) × (words_seen pass.new ≡ words_seen pass.old) }
     {
@@ -122,7 +122,7 @@ impl<'q, P: Posing> ValueTable<'q, P> {
         self.raise(pass, state)
     }
 
-    /// Loads each word once, and writes their values.
+    /// Loads each word once, and writes its value into the table.
     pub fn read_into(&self, pass: &mut Pass<P>, table: &mut [u64])
         requires pass { IsOf self.now pass.old }
         requires room { length table.old ≡ states P.posed }
@@ -136,7 +136,7 @@ impl<'q, P: Posing> ValueTable<'q, P> {
     }
 
     /// Loads the words of the successors of the states from `from` up to and not including `to`, and keeps nothing:
-    /// steps there then find these words near. Where all words are few they are near, and none is loaded.
+    /// steps there then find these words near. If there are few words they are near, and none is loaded.
     pub fn look_ahead(&self, pass: &mut Pass<P>, from: u32, to: u32)
         requires pass { IsOf self.now pass.old }
         requires order { from ≤ to }
@@ -149,8 +149,8 @@ impl<'q, P: Posing> ValueTable<'q, P> {
         }
     }
 
-    /// A second pass, which has seen the same and has won nothing. Each of the two has about half of the
-    /// parts; a single part is lost.
+    /// Returns a second pass, which has seen the same and has won nothing. Each of the two has about half of the parts;
+    /// a single part is lost.
     pub fn split(&self, pass: &mut Pass<P>) -> Pass<P>
         requires { IsOf self.now pass.old }
         ensures grew { Grew pass.old pass.new }
@@ -167,7 +167,7 @@ impl<'q, P: Posing> ValueTable<'q, P> {
         }
     }
 
-    /// Takes in another pass: what was seen at a state is then the seen word of greater value.
+    /// Takes in another pass: for each state the seen word of greater value is then the one that was seen.
     pub fn meet(&self, pass: &mut Pass<P>, other: Pass<P>)
         requires pass { IsOf self.now pass.old }
         requires other { IsOf self.now other }
@@ -181,12 +181,12 @@ impl<'q, P: Posing> ValueTable<'q, P> {
         self.table.shared.join_seat::<Sharing>(&mut pass.seat, seat);
     }
 
-    /// The final words. Each is the one that the pass has seen, or has a greater value.
+    /// Returns the final words. Each is the one that the pass has seen, or has a greater value.
     pub fn close(self, alloc: Global, pass: Pass<P>) -> Result<Words, OutOfMemory>
         requires { IsOf self pass }
         ensures words { IfOk result (λ words. AreSoundWords P.posed words) }
         ensures seen { IfOk result (λ words. Sees P.posed words (words_seen pass)) }
-        // A pass with all parts is the only one: the words are within as many down steps as it won exchanges.
+        // A pass with all parts is the only one: the words are nowhere above as many down steps as it won exchanges.
         ensures within { parts_of pass ≡ all_parts
             → IfOk result (λ words. IsBelow P.posed (value_at words) (down_steps P.posed (won_by pass))) }
     {
@@ -202,7 +202,7 @@ impl<'q, P: Posing> ValueTable<'q, P> {
         Ok(Words { words: words? })
     }
 
-    // The word of a state.
+    // Returns the word of a state.
     fn load(&self, pass: &mut Pass<P>, state: u32) -> u64
         requires pass { IsOf self.now pass.old }
         requires state { state < states P.posed }
@@ -245,7 +245,7 @@ impl<'q, P: Posing> ValueTable<'q, P> {
             .compare_exchange::<Exchanging>(&mut pass.seat, state as usize, from, to)
     }
 
-    // Tries to exchange the word until it has at least this value. Whether an exchange won.
+    // Tries to exchange the word until it has at least this value. Returns whether an exchange won.
     fn exchange_up(&self, pass: &mut Pass<P>, state: u32, to: u64) -> bool
         requires pass { IsOf self.now pass.old }
         requires state { state < states P.posed }
@@ -268,7 +268,7 @@ impl<'q, P: Posing> ValueTable<'q, P> {
         false
     }
 
-    // `update` at a state that is neither goal nor dead.
+    // Does `update` at a state that is neither goal nor dead.
     fn raise(&self, pass: &mut Pass<P>, state: u32) -> bool
         requires pass { IsOf self.now pass.old }
         requires state { state < states P.posed }
@@ -289,7 +289,7 @@ impl<'q, P: Posing> ValueTable<'q, P> {
     }
 }
 
-// What a kernel of steps reads: the words as they are loaded.
+// A kernel of steps reads the words as they are loaded.
 impl<'q, P: Posing> Values for ValueTable<'q, P> {
     ghost use Rattle.std.proofs.Common.{refl, ◌∙◌, le_refl, le_trans};
     ghost use Rattle.value_words.specs.Passes.{IsOf, Looked, seen_by};
@@ -328,7 +328,7 @@ impl<'q, P: Posing> Values for ValueTable<'q, P> {
     ghost units = { λ _ a s k. a.units s k.1 };
 }
 
-// The words that a closed table holds.
+// Returns the words that a closed table holds.
 fn words_of(alloc: Global, closed: &Closed<(), Global>) -> Result<Vec<u64>, OutOfMemory>
     requires { IsFull closed.now.words }
     ensures { IfOk result (λ words. words.items ≡ slots_items closed.now.words) }

@@ -1,32 +1,32 @@
-//! Why a file of values is refused.
+//! This module says why a file of values is refused.
 
-/// Why a file of values is refused.
+/// A cause says why a file of values is refused.
 #[derive(Clone, Copy, Debug, PartialEq, Eq)]
 pub enum ValuesCause {
-    /// A line is neither one number nor a state and a number, or not of the form of the first line.
+    /// A line is neither one number nor a state and a number, or does not have the form of the first line.
     BadField,
     /// A state is not below the number of states.
     StateOutOfRange,
-    /// A state stands twice.
+    /// A state occurs twice.
     DoubleState,
-    /// One number a line, and there are not as many lines as states.
+    /// Each line is one number, and there are not as many lines as states.
     LineCount,
 }
 
-/// A fault of a file of values, with its line. Lines count from 1, blank ones too; line 0 says that it is of no one
-/// line.
+/// A fault of a file of values has a line and a cause. Lines count from 1, and blank ones count. Line 0 says that the
+/// fault belongs to no single line.
 #[derive(Clone, Copy, Debug, PartialEq, Eq)]
 pub struct ValuesFault {
-    /// The number of the line.
+    /// This is the number of the line.
     pub line: u32,
-    /// What is wrong there.
+    /// This is what is wrong there.
     pub cause: ValuesCause,
 }
 
-/// How reading a file of values ends that gives none.
+/// Reading a file of values ends like this if it gives no values.
 #[derive(Clone, Copy, Debug, PartialEq, Eq)]
 pub enum ValuesEnd {
-    /// Memory was wanting.
+    /// Memory ran out.
     OutOfMemory,
     /// The text has this fault.
     Refused(ValuesFault),
@@ -37,7 +37,7 @@ impl ValuesEnd {
     ghost use Rattle.values_reader.specs.declared.fault.ValuesEnd.TheVariants.{Refused};
     ghost use Rattle.values_reader.specs.Faults.{fault_at};
 
-    /// The line of this number has a fault.
+    /// Returns the end that the line of this number has a fault.
     pub(crate) fn at(line: u32, cause: ValuesCause) -> ValuesEnd
         ensures { result ≡ Refused (fault_at line cause) }
     {

@@ -1,4 +1,4 @@
-//! Files with one number a line, in the order of the states.
+//! This module reads files with one number a line, in the order of the states.
 
 ghost use Rattle.std.specs.Prelude.{◌≡◌, ◌≤◌, ◌+◌, IfOk, OnOk, length, min};
 ghost use Rattle.text_lines.specs.Limits.{most_bytes};
@@ -12,7 +12,7 @@ use crate::lines::next_line;
 use crate::number::value_in;
 use std::alloc::{AllocError, Global};
 
-// A value goes behind the others, unless there are as many as states.
+// Puts a value behind the others, unless there are as many as states.
 fn push_within(values: &mut Vec<f64>, states: u32, value: f64) -> Result<(), AllocError>
     requires few { length values.old.items ≤ states }
     requires before { AreProbabilities values.old.items }
@@ -26,7 +26,7 @@ fn push_within(values: &mut Vec<f64>, states: u32, value: f64) -> Result<(), All
     Ok(())
 }
 
-/// The values of a text with one number a line.
+/// Reads the values of a text with one number a line.
 pub fn read_in_order(alloc: Global, text: &[u8], states: u32) -> Result<Vec<f64>, ValuesEnd>
     requires { length text.now ≤ most_bytes }
     ensures exact { Answers (fault_in_order states (counted 1 (lines_of text.now))) result }

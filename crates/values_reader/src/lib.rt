@@ -1,6 +1,6 @@
-//! Files of values: a number for each state of a model, as other tools write them.
+//! This crate reads files of values: a number for each state of a model, as other tools write them.
 //!
-//! [`read_values`] gives as many entries as there are states, each from 0 to 1; or the first fault of the text, with
+//! [`read_values`] gives as many entries as there are states, each from 0 to 1, or the first fault of the text, with
 //! its line. The first line that is not blank says which of two forms the file has: one number a line, in the order of
 //! the states, or `STATE=VALUE`, where states that are left out have the value 0.
 //!
@@ -9,7 +9,7 @@
 //! ```
 //!
 //! `specs/Lines.antt` says what a line is, `specs/Faults.antt` which fault a text has, and `specs/Values.antt` what the
-//! entries are. Of an entry nothing is promised but that it is a number from 0 to 1: a caller takes it as a hint.
+//! entries are. The only promise about an entry is that it is a number from 0 to 1: a caller takes it as a hint.
 #![tactic(auto)]
 
 mod fault;

@@ -1,4 +1,4 @@
-//! A state and a number.
+//! This module reads a state and a number.
 
 ghost use Rattle.std.specs.Prelude.{◌≡◌, ◌∷◌, Some, None, MatchOption, IfSome, option_map};
 ghost use Rattle.text_lines.specs.Text.{fields_of, saturated};
@@ -14,7 +14,7 @@ fn mark(b: u8) -> bool
     b == b'=' || b == b':'
 }
 
-/// What stands before the last mark, `=` or `:`, and behind it.
+/// Splits a line at its last mark, `=` or `:`, if it has one.
 pub fn split_at_last_mark(line: &[u8]) -> Option<(&[u8], &[u8])>
     ensures { MatchOption result (split_last line.now ≡ None) (λ r. split_last line.now ≡ Some (r.0.now, r.1.now)) }
 {
@@ -30,7 +30,7 @@ pub fn split_at_last_mark(line: &[u8]) -> Option<(&[u8], &[u8])>
     None
 }
 
-// What stands between brackets, where they stand around it.
+// Takes off the brackets around the bytes, if there are any.
 fn unbracketed(bytes: &[u8]) -> &[u8]
     ensures { result.now ≡ without_brackets bytes.now }
 {
@@ -40,7 +40,7 @@ fn unbracketed(bytes: &[u8]) -> &[u8]
     }
 }
 
-// The state that is the one field of some bytes, in brackets or without.
+// Reads the state that is the one field of some bytes, in brackets or without.
 fn only_state(bytes: &[u8]) -> Option<u64>
     ensures { result ≡ option_map saturated (one_state (fields_of bytes.now)) }
 {
@@ -53,7 +53,7 @@ fn only_state(bytes: &[u8]) -> Option<u64>
     whole(unbracketed(field))
 }
 
-// Whether the last field behind this one, or this one where it is the last, ends in a bracket.
+// Returns whether the last field ends in `)`. `first` is the field before `rest`.
 fn closed(first: &[u8], rest: &[u8]) -> bool
     ensures { result ≡ is_closed (first.now ∷ fields_of rest.now) }
 {
@@ -66,7 +66,7 @@ fn closed(first: &[u8], rest: &[u8]) -> bool
     matches!(last, [.., b')'])
 }
 
-// Whether a valuation in brackets is all that stands in some bytes.
+// Returns whether some bytes are only a valuation in brackets.
 fn valuation(bytes: &[u8]) -> bool
     ensures { result ≡ is_valuation (fields_of bytes.now) }
 {
@@ -76,7 +76,7 @@ fn valuation(bytes: &[u8]) -> bool
     }
 }
 
-// The state that stands before a number, with or without a valuation.
+// Reads the state before a number, with a valuation or without one.
 fn state_in(bytes: &[u8]) -> Option<u64>
     ensures { result ≡ option_map saturated (state_before bytes.now) }
 {
@@ -92,7 +92,7 @@ fn state_in(bytes: &[u8]) -> Option<u64>
     }
 }
 
-/// The state of a line that is a state and a number, and the number as a value from 0 to 1.
+/// Reads the state of a line that is a state and a number, and the number as a value from 0 to 1.
 pub fn state_and_value(line: &[u8]) -> Option<(u64, f64)>
     ensures state { MatchOption result (state_of line.now ≡ None)
         (λ r. option_map saturated (state_of line.now) ≡ Some r.0) }

@@ -1,4 +1,4 @@
-//! Files with a state and a number a line.
+//! This module reads files with a state and a number a line.
 
 ghost use Rattle.std.specs.Prelude.{◌≡◌, ◌<◌, ◌≤◌, ℕ, Err, Ok, IfOk, MatchResult, false, length};
 ghost use Rattle.text_lines.specs.Limits.{most_bytes};
@@ -13,7 +13,7 @@ use crate::line::state_and_value;
 use crate::lines::next_line;
 use std::alloc::{AllocError, Global};
 
-// The values of the states that are named so far. The others have 0.
+// Holds the values of the states that are named so far. The others have 0.
 #[derive(Drop)]
 struct NamedValues {
     states: u32,
@@ -25,7 +25,7 @@ struct NamedValues {
 }
 
 impl NamedValues {
-    // No state is named.
+    // Makes a table in which no state is named.
     fn new(alloc: Global, states: u32) -> Result<NamedValues, AllocError>
         ensures states { IfOk result (λ it. it.states ≡ states) }
         ensures none { IfOk result (λ it. (state : ℕ) → marked it.named.items state ≡ false) }
@@ -39,7 +39,7 @@ impl NamedValues {
         })
     }
 
-    // The state has this value.
+    // Gives the state this value.
     fn put(&mut self, state: u32, value: f64)
         requires inside { state < self.old.states }
         requires bounds { IsProbability value }
@@ -52,7 +52,7 @@ impl NamedValues {
     }
 }
 
-// The state of a line that is not among those that are marked, and its value; or why the line is refused.
+// Reads the state of a line, which is not marked yet, and its value, or the cause why the line is refused.
 fn new_entry(states: u32, named: &[bool], line: &[u8]) -> Result<(u32, f64), ValuesCause>
     requires { length named.now ≡ states }
     ensures entry { MatchResult result
@@ -73,7 +73,7 @@ fn new_entry(states: u32, named: &[bool], line: &[u8]) -> Result<(u32, f64), Val
     Ok((state as u32, value))
 }
 
-/// The values of a text with a state and a number a line.
+/// Reads the values of a text with a state and a number a line.
 pub fn read_named(alloc: Global, text: &[u8], states: u32) -> Result<Vec<f64>, ValuesEnd>
     requires { length text.now ≤ most_bytes }
     ensures exact { Answers (fault_of_named states (λ state. false) (counted 1 (lines_of text.now))) result }

@@ -1,4 +1,4 @@
-//! The reader of files of values.
+//! This module reads files of values.
 
 ghost use Rattle.std.specs.Prelude.{◌≡◌, ◌≤◌, IfOk, length};
 ghost use Rattle.text_lines.specs.Limits.{most_bytes};
@@ -13,8 +13,8 @@ use crate::lines::next_line;
 use crate::named::read_named;
 use std::alloc::Global;
 
-/// The values of so many states that a text has, each from 0 to 1: a number above 1 counts as 1, and one below 0 or
-/// none as 0. Or the first fault of the text. What number a line gives is promised by nothing.
+/// Reads the values of `states` states from a text, each from 0 to 1, or the first fault of the text. A number above 1
+/// counts as 1, and one below 0, or `nan`, as 0. No contract says which number a line gives.
 pub fn read_values(alloc: Global, text: &[u8], states: u32) -> Result<Vec<f64>, ValuesEnd>
     requires { length text.now ≤ most_bytes }
     ensures exact { Answers (fault_of states text.now) result }

@@ -1,4 +1,4 @@
--- What the bounds of a value, in units, say of a threshold.
+-- The bounds of a value, in units, give a verdict on a threshold.
 use Rattle.std.specs.Prelude.{ℕ, ◌*◌, Bool, true, false, not, nat_lt, nat_le, if◌then◌else◌}
 use Rattle.game_model.specs.Limits.{unit}
 use Rattle.fractions.specs.Fraction.{Fraction}
@@ -7,19 +7,19 @@ use Rattle.formula_reader.specs.declared.formula.Bound.TheVariants.{AtLeast, Abo
 use Rattle.verdicts.specs.declared.verdict.Verdict.{Verdict}
 use Rattle.verdicts.specs.declared.verdict.Verdict.TheVariants.{Yes, No, Undecided, Bracket}
 
--- so many units are at least p
+-- This many units are at least p.
 abbrev pub reaches : Fraction → ℕ → Bool
 reaches p units = nat_le (p.num * unit) (units * p.den)
 
--- so many units are above p
+-- This many units are above p.
 abbrev pub exceeds : Fraction → ℕ → Bool
 exceeds p units = nat_lt (p.num * unit) (units * p.den)
 
--- what two tests say: the first one that holds counts
+-- The first of two tests that holds gives the verdict.
 abbrev pub verdict_by : Bool → Bool → Verdict
 verdict_by holds fails = if holds then Yes else (if fails then No else Undecided)
 
--- what a lower and an upper bound say of a bound on the value between them
+-- A lower and an upper bound give this verdict for a bound on the value between them.
 abbrev pub verdict_of : Bound → ℕ → ℕ → Verdict
 verdict_of (AtLeast p) lower upper = verdict_by (reaches p lower) (not (reaches p upper))
 verdict_of (Above p) lower upper = verdict_by (exceeds p lower) (not (exceeds p upper))
@@ -28,35 +28,35 @@ verdict_of (Below p) lower upper = verdict_by (not (reaches p upper)) (reaches p
 verdict_of AskMax lower upper = Bracket
 verdict_of AskMin lower upper = Bracket
 
--- a verdict of this kind
+-- The verdict is that the bound holds.
 abbrev pub is_yes : Verdict → Bool
 is_yes Yes = true
 is_yes No = false
 is_yes Undecided = false
 is_yes Bracket = false
 
--- the verdict is that the bound fails
+-- The verdict is that the bound fails.
 abbrev pub is_no : Verdict → Bool
 is_no Yes = false
 is_no No = true
 is_no Undecided = false
 is_no Bracket = false
 
--- the verdict is that the bounds leave the threshold open
+-- The verdict is that the bounds leave the threshold open.
 abbrev pub is_undecided : Verdict → Bool
 is_undecided Yes = false
 is_undecided No = false
 is_undecided Undecided = true
 is_undecided Bracket = false
 
--- the threshold is settled, one way or the other
+-- The verdict is that the bound holds, or that it fails.
 abbrev pub is_settling : Verdict → Bool
 is_settling Yes = true
 is_settling No = true
 is_settling Undecided = false
 is_settling Bracket = false
 
--- the bound asks for a value, and sets no threshold
+-- The bound asks for a value, and sets no threshold.
 abbrev pub is_asking : Bound → Bool
 is_asking AskMax = true
 is_asking AskMin = true

@@ -1,4 +1,4 @@
-//! When a run may stop.
+//! This module has the rule by which a run may stop when its bound is settled.
 
 ghost use Rattle.std.specs.Prelude.{◌≡◌, ◌≤◌, not};
 ghost use Rattle.game_model.specs.Limits.{unit};
@@ -7,9 +7,10 @@ ghost use Rattle.verdicts.specs.Stop.{bound_of, IsRuleOf, IsStopRule};
 
 use formula_reader::Bound;
 
-/// A bound, and a closure that says of a lower and an upper bound of a value whether they settle it.
+/// A rule has a bound, and a closure that says whether a lower and an upper bound of a value settle it.
 ///
-/// That the closure says so is `IsStopRule`: [`StopRule::of_bound`] ensures it, and what takes a rule requires it.
+/// `IsStopRule` is the promise that the closure says so: [`StopRule::of_bound`] ensures it, and what takes a rule
+/// requires it.
 #[derive(Drop)]
 pub struct StopRule<F: Fn(u64, u64) -> bool> {
     bound: Bound,
@@ -17,7 +18,8 @@ pub struct StopRule<F: Fn(u64, u64) -> bool> {
 }
 
 impl<F: Fn(u64, u64) -> bool> StopRule<F> {
-    /// A bound with a closure that may be called on all values and is true exactly where they settle it.
+    /// Makes the rule of a bound from a closure that may be called on all values and is true exactly if they settle the
+    /// bound.
     pub fn of_bound(bound: Bound, rule: F) -> StopRule<F>
         requires { IsRuleOf F.Fn bound rule }
         ensures bound { bound_of result ≡ bound }
@@ -26,7 +28,7 @@ impl<F: Fn(u64, u64) -> bool> StopRule<F> {
         StopRule { bound, rule }
     }
 
-    /// Whether these bounds of a value settle the bound.
+    /// Returns whether these bounds of a value settle the bound.
     pub fn asks(&self, lower: u64, upper: u64) -> bool
         requires kept { IsStopRule F.Fn self.now }
         requires lower { lower ≤ unit }
@@ -36,7 +38,7 @@ impl<F: Fn(u64, u64) -> bool> StopRule<F> {
         (self.rule)(lower, upper)
     }
 
-    /// Whether some values may settle the bound: it sets a threshold, and asks for no value.
+    /// Returns whether some values may settle the bound: it is a threshold, and does not ask for a value.
     pub fn may_settle(&self) -> bool
         ensures { result ≡ not (is_asking (bound_of self.now)) }
     {
@@ -46,7 +48,7 @@ impl<F: Fn(u64, u64) -> bool> StopRule<F> {
         }
     }
 
-    /// The bound.
+    /// Returns the bound.
     pub fn bound(&self) -> Bound
         ensures { result ≡ bound_of self.now }
     {

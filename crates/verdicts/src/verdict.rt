@@ -1,4 +1,4 @@
-//! What the bounds of a value say of a threshold.
+//! The bounds of a value give a verdict on a threshold.
 
 ghost use Rattle.std.specs.Prelude.{◌≡◌, ◌≤◌};
 ghost use Rattle.game_model.specs.Limits.{unit};
@@ -8,14 +8,14 @@ use formula_reader::Bound;
 use fractions::Frac;
 use game_model::UNIT;
 
-/// What the bounds say of a formula at a state.
+/// The bounds say this of a formula at a state.
 #[derive(Clone, Copy, Debug, PartialEq, Eq)]
 pub enum Verdict {
-    /// The bound on the probability holds; printed `True`.
+    /// The bound on the probability holds: `True` is printed.
     Yes,
-    /// It fails; printed `False`.
+    /// The bound on the probability fails: `False` is printed.
     No,
-    /// The bracket does not settle it.
+    /// The bracket does not settle the bound.
     Undecided,
     /// The formula asks for a value, and the bracket is the answer.
     Bracket,
@@ -24,28 +24,28 @@ pub enum Verdict {
 impl Verdict {
     ghost use Rattle.verdicts.specs.Verdict.{is_yes, is_no, is_undecided, is_settling};
 
-    /// Whether the bound holds.
+    /// Returns whether the bound holds.
     pub fn is_yes(self) -> bool
         ensures { result ≡ is_yes self }
     {
         matches!(self, Verdict::Yes)
     }
 
-    /// Whether the bound fails.
+    /// Returns whether the bound fails.
     pub fn is_no(self) -> bool
         ensures { result ≡ is_no self }
     {
         matches!(self, Verdict::No)
     }
 
-    /// Whether a threshold is left open.
+    /// Returns whether a threshold is left open.
     pub fn is_undecided(self) -> bool
         ensures { result ≡ is_undecided self }
     {
         matches!(self, Verdict::Undecided)
     }
 
-    /// Whether a threshold is settled, one way or the other.
+    /// Returns whether a threshold is settled: the bound holds or fails.
     pub fn is_settling(self) -> bool
         ensures { result ≡ is_settling self }
     {
@@ -53,17 +53,17 @@ impl Verdict {
     }
 }
 
-/// What a lower and an upper bound, in units, say of the bound on the value between them.
+/// Returns the verdict of a lower and an upper bound, in units, on a bound of the value between them.
 ///
-/// | Bound | `Yes` where | `No` where |
+/// | Bound | `Yes` if | `No` if |
 /// |---|---|---|
 /// | `>= p` | the lower one is at least `p` | the upper one is below `p` |
 /// | `> p` | the lower one is above `p` | the upper one is at most `p` |
 /// | `<= p` | the upper one is at most `p` | the lower one is above `p` |
 /// | `< p` | the upper one is below `p` | the lower one is at least `p` |
 ///
-/// The first of these that holds counts, and where neither does it is `Undecided`. A bound that asks for a value is
-/// answered by the `Bracket`.
+/// The first of these that holds counts. If neither holds, the verdict is `Undecided`. For a bound that asks for a
+/// value it is `Bracket`.
 pub fn settle(bound: &Bound, lower: u64, upper: u64) -> Verdict
     requires lower { lower ≤ unit }
     requires upper { upper ≤ unit }
@@ -91,7 +91,7 @@ fn verdict_by(holds: bool, fails: bool) -> Verdict
     }
 }
 
-// Whether so many units are at least the threshold.
+// Returns whether this many units are at least the threshold.
 fn reaches(threshold: &Frac, units: u64) -> bool
     requires { units ≤ unit }
     ensures { result ≡ reaches threshold.now units }
@@ -99,7 +99,7 @@ fn reaches(threshold: &Frac, units: u64) -> bool
     threshold.num() * u128::from(UNIT) <= u128::from(units) * threshold.den()
 }
 
-// Whether so many units are above the threshold.
+// Returns whether this many units are above the threshold.
 fn exceeds(threshold: &Frac, units: u64) -> bool
     requires { units ≤ unit }
     ensures { result ≡ exceeds threshold.now units }

@@ -1,17 +1,17 @@
-//! The words that ask a command the question of a row, and the files that they name.
+//! This module makes the words that ask a command the question of a row, and the files that they name.
 
 use crate::rows::{Row, add_words, file, files, words};
 use game_outside::HeldFile;
 use std::alloc::Global;
 use std::test::Fail;
 
-/// The name of the certificate's file.
+/// The file of the certificate has this name.
 pub const CERTIFICATE: &str = "c";
 
-/// The name of the file of values to begin with.
+/// The file of values to begin with has this name.
 pub const VALUES: &str = "v";
 
-// Adds the words that name the file of owners, where the row has one.
+// Adds the words that name the file of owners, if the row has one.
 fn add_owners(alloc: Global, owned: &mut Vec<String>, row: Row<'_>) -> Result<(), Fail> {
     match row.own {
         Some(_) => add_words(alloc, owned, &["--own", "m.own"]),
@@ -19,26 +19,26 @@ fn add_owners(alloc: Global, owned: &mut Vec<String>, row: Row<'_>) -> Result<()
     }
 }
 
-// The words that ask a command the question of a row.
+// Makes the words that ask a command the question of a row.
 fn question_words(alloc: Global, command: &str, row: Row<'_>) -> Result<Vec<String>, Fail> {
     let mut owned = words(alloc, &[command, "m.tra", "m.lab", row.formula])?;
     add_owners(alloc, &mut owned, row)?;
     Ok(owned)
 }
 
-/// The words that check a row.
+/// Makes the words that check a row.
 pub fn check_words(alloc: Global, row: Row<'_>) -> Result<Vec<String>, Fail> {
     let mut owned = question_words(alloc, "check", row)?;
     add_words(alloc, &mut owned, row.numbers)?;
     Ok(owned)
 }
 
-/// The words that ask a row for its almost-sure states.
+/// Makes the words that ask a row for its almost-sure states.
 pub fn sure_words(alloc: Global, row: Row<'_>) -> Result<Vec<String>, Fail> {
     question_words(alloc, "sure", row)
 }
 
-/// The words that audit a certificate for the model and the formula of a row.
+/// Makes the words that audit a certificate for the model and the formula of a row.
 pub fn audit_words(alloc: Global, row: Row<'_>) -> Result<Vec<String>, Fail> {
     let mut owned = words(
         alloc,
@@ -48,7 +48,7 @@ pub fn audit_words(alloc: Global, row: Row<'_>) -> Result<Vec<String>, Fail> {
     Ok(owned)
 }
 
-/// The words that solve a row, from a file of values where there is one.
+/// Makes the words that solve a row, from a file of values if there is one.
 pub fn solve_words(alloc: Global, row: Row<'_>, values: Option<&str>) -> Result<Vec<String>, Fail> {
     let mut owned = question_words(alloc, "solve", row)?;
     if values.is_some() {
@@ -58,7 +58,7 @@ pub fn solve_words(alloc: Global, row: Row<'_>, values: Option<&str>) -> Result<
     Ok(owned)
 }
 
-/// The files of a row, and one of this name where there is a text for it.
+/// Makes the files of a row, and one of this name if there is a text for it.
 pub fn files_with(
     alloc: Global,
     row: Row<'_>,

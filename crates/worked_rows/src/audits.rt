@@ -1,4 +1,4 @@
-//! Certificates that are audited.
+//! These tests audit certificates.
 
 use crate::printed_plans::MOST_OF_COIN_LOOP_WITH_PLAN;
 use crate::tables::{
@@ -40,7 +40,7 @@ fn what_a_check_prints_is_accepted(rt: HostRuntime) -> Result<(), Fail> {
     printed_are_audited(&rt, rt.alloc(), PRINTED)
 }
 
-// What a check prints of the loop or coin, with another line of state 0.
+// Makes what a check prints of the loop or coin, with another line of state 0.
 fn with_line(alloc: Global, line: &str) -> Result<String, Fail> {
     Ok(format!(in alloc;
         "state 0 lower 0.500000000000000 upper 0.500000000000000 rounds 2 Bracket\nformula Pmax=? [ F \"goal\" ]\ncertificate 2 3\n{line}\n1 1.000000000000000 - 0 1.000000000000000 -\n2 0.000000000000000 - 0 0.000000000000000 -\n"
@@ -62,7 +62,7 @@ const CHANGES: &[(&str, &str)] = &[
     ),
 ];
 
-// Without a change it is what is printed.
+// The text without a change is what is printed.
 fn unchanged_is_printed<R: Threads + Sync>(rt: &R, alloc: Global) -> Result<(), Fail> {
     let (_, printed) = runs(rt, alloc, MOST_OF_LOOP_OR_COIN, &OpenGate {})?;
     let unchanged = with_line(alloc, "0 0.500000000000000 1 1 0.500000000000000 -")?;
@@ -98,8 +98,7 @@ fn a_printed_text_without_its_last_line_is_refused(rt: HostRuntime) -> Result<()
     all_write(&rt, rt.alloc(), WITHOUT_ITS_LAST_LINE)
 }
 
-// The value of the coin loop is one half. A check comes near from below only, and leaves open what needs the value
-// itself.
+// The value of the coin loop is one half, and this certificate has it as both bounds.
 const NEARER: &str =
     "certificate 2 3\n0 0.500000000000000 0 1 0.500000000000000 0\n1 1.000000000000000 - 0 1.000000000000000 -\n2 0.000000000000000 - 0 0.000000000000000 0\n";
 

@@ -1,4 +1,4 @@
-//! Certificates, as they are printed.
+//! These tests are of certificates as they are printed.
 
 use crate::printed_plans::{LOOP_OR_COIN_PLAN, MOST_OF_COIN_LOOP_WITH_PLAN};
 use crate::tables::all_write;
@@ -9,7 +9,7 @@ use std::alloc::Global;
 use std::test::Fail;
 use stogame_app::Status;
 
-// One half is met in the limit alone: no number of rounds reaches it from below, and ranks vouch for it.
+// One half is met only in the limit: no number of rounds reaches it from below, and the ranks prove it.
 const IN_THE_LIMIT: &[Case<'static>] = &[Case {
     command: Command::Check(MOST_OF_COIN_LOOP_WITH_PLAN),
     text: "state 0 lower 0.500000000000000 upper 0.500000000000000 rounds 50 Bracket\nformula Pmax=? [ F \"goal\" ]\ncertificate 2 3\n0 0.500000000000000 0 1 0.500000000000000 -\n1 1.000000000000000 - 0 1.000000000000000 -\n2 0.000000000000000 - 0 0.000000000000000 -\n",
@@ -26,7 +26,7 @@ fn a_plan_leaves_the_loop(rt: HostRuntime) -> Result<(), Fail> {
     all_write(&rt, rt.alloc(), &[PLAN_OF_LOOP_OR_COIN])
 }
 
-// The tables of the loop or coin, its choices and its ranks.
+// The plan has the tables of the loop or coin, its choices and its ranks.
 fn leaves_the_loop(plan: &Plan) -> Result<(), Fail> {
     let table = [500_000_000_000_000, 1_000_000_000_000_000, 0];
     same("the lower table", plan.lower.as_slice(), table.as_slice())?;

@@ -1,4 +1,4 @@
-//! What is expected of rows: what they write, and how they end.
+//! These checks say what is expected of rows: what they write, and how they end.
 
 use crate::rows::{Row, runs};
 use game_outside::OpenGate;
@@ -8,10 +8,10 @@ use std::test::Fail;
 use std::thread::Threads;
 use stogame_app::Status;
 
-// How many bytes of a text stand in a message.
+// A message shows at most this many bytes of a text.
 const SHOWN: usize = 160;
 
-// Where the first line begins in which both differ.
+// Finds the beginning of the first line in which the texts differ.
 fn differing_line(written: &[u8], expected: &[u8]) -> usize {
     let mut line = 0;
     for (place, (byte, other)) in written.iter().zip(expected.iter()).enumerate() {
@@ -25,14 +25,14 @@ fn differing_line(written: &[u8], expected: &[u8]) -> usize {
     line
 }
 
-// What stands from this byte on, cut where it is long.
+// Shows a text from this byte on, cut if it is long.
 fn shown(bytes: &[u8], from: usize) -> InlineText<{ SHOWN }> {
     let rest = bytes.get(from..).unwrap_or(&[]);
     InlineText::of(rest.escape_ascii())
 }
 
-/// A run ended with this status and wrote this text. Else the failure says what it did in their place, and `of` which
-/// run it is.
+/// A run ended with this status and wrote this text. Otherwise the failure says what it did instead, and `of` says
+/// which run it is.
 pub fn comes_to<D: Display + Drop>(
     of: D,
     ended: Status,

@@ -1,4 +1,4 @@
-//! The files of the coin loop.
+//! This module makes the files of the coin loop.
 
 use crate::models::{COIN_LOOP, GOAL_AT_1, SECOND_OWNS_1};
 use crate::rows::file;
@@ -6,11 +6,11 @@ use game_outside::HeldFile;
 use std::alloc::Global;
 use std::test::Fail;
 
-/// A certificate of the coin loop's value.
+/// This certificate gives the value of the coin loop.
 const COIN_LOOP_CERTIFICATE: &str =
     "certificate 2 3\n0 0.500000000000000 0 1 0.500000000000000 -\n1 1.000000000000000 - 0 1.000000000000000 -\n2 0.000000000000000 - 0 0.000000000000000 -\n";
 
-/// The files of the coin loop, and a certificate; a single minus is the name of the transition file as well.
+/// Makes the files of the coin loop, and a certificate. A single minus is also a name of the transition file.
 pub fn coin_loop_files(alloc: Global) -> Result<Vec<HeldFile>, Fail> {
     let mut files = Vec::new(alloc);
     files.push(file(alloc, "m.tra", COIN_LOOP)?)?;

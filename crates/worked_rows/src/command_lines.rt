@@ -1,4 +1,4 @@
-//! Words of the command line.
+//! These tests are of the words of the command line.
 
 use crate::checks::comes_to;
 use crate::models::USAGE;
@@ -39,8 +39,8 @@ fn lists_write<R: Threads + Sync>(
     Ok(())
 }
 
-// A missing word, a surplus one, an unknown option, one that stands twice, a value that is missing or too many, and
-// numbers out of range.
+// No list is a command: words are missing, empty or surplus, an option is unknown, is given twice, lacks its value or
+// has a surplus one, or a number is out of range.
 const NO_COMMAND: &[&[&str]] = &[
     &[],
     &["m.tra", "m.lab", REACH],

@@ -1,4 +1,4 @@
-//! Commands over rows, run as they stand, over files that come in pieces, or with calls that fail.
+//! These are commands over rows. They are run over files that come in pieces, or with calls that fail.
 
 ghost use Rattle.std.specs.Prelude.{◌<◌};
 
@@ -13,11 +13,11 @@ use std::test::Fail;
 use std::thread::Threads;
 use stogame_app::{Status, run};
 
-/// How many bytes the sink takes at once.
+/// The sink takes this many bytes at once.
 pub const STEP: usize = 7;
 
-/// The check of a row, the audit of a certificate for its model and its formula, its solution, from values where there
-/// are any, its almost-sure states, or words that name no file.
+/// A command is the check of a row, the audit of a certificate for the model and the formula of a row, the solution of
+/// a row, from values if there are any, its almost-sure states, or words that name no file.
 #[derive(Clone, Copy)]
 pub enum Command<'a> {
     Check(Row<'a>),
@@ -28,7 +28,7 @@ pub enum Command<'a> {
 }
 
 impl<'a> Command<'a> {
-    /// What a message calls it: the command and its formula, or, of words that name no file, the last.
+    /// Names the command in a message by its kind and its formula, or by its last word if the words name no file.
     pub fn title(self) -> (&'a str, &'a str) {
         match self {
             Command::Check(row) => ("check", row.formula),
@@ -39,7 +39,7 @@ impl<'a> Command<'a> {
         }
     }
 
-    /// The same command with another formula.
+    /// Returns the same command with another formula.
     pub fn asked(self, formula: &'a str) -> Command<'a> {
         match self {
             Command::Check(row) => Command::Check(row.asked(formula)),
@@ -50,7 +50,7 @@ impl<'a> Command<'a> {
         }
     }
 
-    /// The words of the command.
+    /// Makes the words of the command.
     pub fn words(self, alloc: Global) -> Result<Vec<String>, Fail> {
         match self {
             Command::Check(row) => check_words(alloc, row),
@@ -61,7 +61,7 @@ impl<'a> Command<'a> {
         }
     }
 
-    /// The files that the words name.
+    /// Makes the files that the words name.
     pub fn files(self, alloc: Global) -> Result<Vec<HeldFile>, Fail> {
         match self {
             Command::Check(row) | Command::Sure(row) => files(alloc, row),
@@ -77,7 +77,7 @@ impl<'a> Command<'a> {
     }
 }
 
-/// A shelf with pieces of at most so many bytes, and the calls of the shelf and of the sink that fail.
+/// The shelf gives pieces of at most this many bytes, and these calls of the shelf and of the sink fail.
 #[derive(Clone, Copy)]
 pub struct Outside<'a> {
     pub piece: u32,
@@ -85,7 +85,7 @@ pub struct Outside<'a> {
     pub writes: &'a [u64],
 }
 
-/// How a command ended, what it wrote, and how many calls failed.
+/// This says how a command ended, what it wrote, and how many calls failed.
 #[derive(Drop)]
 pub struct Ended {
     pub status: Status,
@@ -94,7 +94,7 @@ pub struct Ended {
     pub write_faults: u64,
 }
 
-/// How a command ends.
+/// Runs a command and says how it ends.
 pub fn ends_over<R: Threads + Sync>(
     rt: &R,
     alloc: Global,

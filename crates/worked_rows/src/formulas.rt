@@ -1,4 +1,4 @@
-//! Formulas that are refused.
+//! These formulas are refused.
 
 use crate::tables::{Answer, answers_write, refuses};
 use crate::{Command, MOST_OF_COIN_LOOP, push_times};
@@ -39,7 +39,8 @@ fn formulas_are_refused_at_their_place(rt: HostRuntime) -> Result<(), Fail> {
     answers_write(&rt, rt.alloc(), command, front, AT_THEIR_PLACE)
 }
 
-// How a formula begins, a sign and how often it stands then, the end, and where and why it is refused.
+// Each row says how a formula begins, which sign follows and how often, how the formula ends, and where and why it is
+// refused.
 const TOO_LONG: &[(&str, &str, u32, &str, &str)] = &[
     ("Pmax=? [ F ", "!", 65, "true ]", "75 TooDeep"),
     ("Pmax=? [ F ", "(", 65, "", "75 TooDeep"),

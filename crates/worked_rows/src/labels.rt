@@ -1,4 +1,4 @@
-//! Label files, owner files and questions that are refused.
+//! These label files, owner files and questions are refused.
 
 use crate::models::{GOAL_AT_2, TWO_PLAYERS};
 use crate::tables::all_write;

@@ -1,8 +1,8 @@
-//! Tests of `run` over worked rows, from the words and the files to the written text, and what these and the tests of
-//! `outside_rows` share: models, commands, and checks of what is written.
+//! These are the tests of `run` over worked rows, from the words and the files to the written text. The crate also
+//! holds what these tests and those of `outside_rows` share: models, commands, and checks of what is written.
 //!
-//! A case has a command over a row (a model, a formula and numbers), the text that is written and the status. Expected
-//! values were worked out by hand or by a program apart from this one.
+//! A case has a command over a row (a model, a formula and numbers), the text that is written and the status. The
+//! expected values were worked out by hand or by a program apart from this one.
 #![tactic(auto)]
 
 pub mod asked;

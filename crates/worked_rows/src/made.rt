@@ -1,4 +1,4 @@
-//! Games that a seed draws.
+//! These games are drawn by a seed.
 
 use crate::models::{OF_THREE_STATES, USAGE};
 use crate::tables::all_write;
@@ -11,7 +11,7 @@ use std::test::Fail;
 use std::thread::Threads;
 use stogame_app::Status;
 
-// How a run with these words ends that has no file, and what it writes.
+// Runs these words, which name no file, and says how the run ends and what it writes.
 fn ends_with<R: Threads + Sync, G: Gate + Sync>(
     rt: &R,
     alloc: Global,
@@ -52,7 +52,7 @@ fn too_few_rounds_leave_a_game_unsettled(rt: HostRuntime) -> Result<(), Fail> {
     all_write(&rt, rt.alloc(), TOO_FEW_ROUNDS)
 }
 
-// What so many workers write of a large game that is settled.
+// Returns what this many workers write of a large game that is settled.
 fn written_by<R: Threads + Sync>(rt: &R, alloc: Global, workers: &str) -> Result<Vec<u8>, Fail> {
     let given = ["make", "7", "20000", "--workers", workers];
     let (ended, written) = ends_with(rt, alloc, &given, &OpenGate {})?;
@@ -90,7 +90,7 @@ fn two_workers_of_a_drawn_game_run_at_once(rt: HostRuntime) -> Result<(), Fail> 
     two_at_once(&rt, rt.alloc())
 }
 
-// Counts who passes it.
+// The gate counts who passes it.
 #[derive(Drop)]
 struct CountGate {
     passed: AtomicU32,
@@ -114,7 +114,7 @@ fn passes<R: Threads + Sync>(rt: &R, alloc: Global, rounds: &str, times: u32) ->
     same(rounds, gate.passed.load(Ordering::SeqCst), times)
 }
 
-// The first round of each table has every state, and one round settles no game of 200 states.
+// The first round of each table has every state, and one round does not settle this game of 200 states.
 #[test]
 fn each_asked_round_of_a_drawn_game_is_made(rt: HostRuntime) -> Result<(), Fail> {
     passes(&rt, rt.alloc(), "0", 0)?;

@@ -1,4 +1,4 @@
-//! As many choices of a state as there may be, and one more.
+//! A state has as many choices as it may have, and one more.
 
 use crate::{MOST_OF_COIN_LOOP, Row, push_times, writes};
 use std::alloc::Global;
@@ -6,10 +6,10 @@ use std::test::Fail;
 use std::thread::Threads;
 use stogame_app::Status;
 
-// The most choices of a state.
+// A state has at most this many choices.
 const MOST: u32 = 16_384;
 
-// A state with so many choices, each of which stays there.
+// Makes a state with this many choices, each of which stays there.
 fn staying(alloc: Global, choices: u32) -> Result<String, Fail> {
     let mut text = format!(in alloc; "1 {choices} {choices}\n")?;
     for choice in 0..choices {
@@ -19,7 +19,7 @@ fn staying(alloc: Global, choices: u32) -> Result<String, Fail> {
     Ok(text)
 }
 
-// So many choices of a state give this.
+// A state with this many choices gives this text and status.
 fn choices_give<R: Threads + Sync>(
     rt: &R,
     alloc: Global,

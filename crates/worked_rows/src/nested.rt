@@ -1,4 +1,4 @@
-//! Formulas with others inside.
+//! These formulas have others inside.
 
 use crate::checks::comes_to;
 use crate::tables::{Answer, all_write, answers_write};
@@ -11,7 +11,7 @@ use std::thread::Threads;
 use stogame_app::Status;
 
 const SETTLED: &[Answer<'static>] = &[
-    // At least half from states 0 and 1, and none from state 2.
+    // The probability is at least one half from states 0 and 1, and is 0 from state 2.
     (
         "P>=1 [ F P>=0.5 [ F \"goal\" ] ]",
         "1 undecided 0\nstate 0 lower 1.000000000000000 upper 1.000000000000000 rounds 1 True",
@@ -50,7 +50,7 @@ fn formulas_inside_hold_where_they_are_settled(rt: HostRuntime) -> Result<(), Fa
     answers_write(&rt, rt.alloc(), command, "inner ", SETTLED)
 }
 
-// The value at state 0 is one half, which no number of rounds shows.
+// The value at state 0 is one half, which four rounds do not show.
 const UNDECIDED: &[Answer<'static>] = &[
     (
         "P>=0.4 [ F P>0.5 [ F \"goal\" ] ]",
@@ -139,7 +139,7 @@ fn names_inside_are_looked_up(rt: HostRuntime) -> Result<(), Fail> {
     answers_write(&rt, rt.alloc(), command, front, UNKNOWN_NAMES)
 }
 
-// How the coin loop ends with a formula and so many workers, and what it writes.
+// Runs the coin loop with a formula and this many workers, and says how it ends and what it writes.
 fn nested_by<R: Threads + Sync, G: Gate + Sync>(
     rt: &R,
     alloc: Global,
@@ -152,7 +152,7 @@ fn nested_by<R: Threads + Sync, G: Gate + Sync>(
     runs(rt, alloc, row, gate)
 }
 
-// So many workers write this.
+// This many workers write this.
 fn nested_writes<R: Threads + Sync>(rt: &R, alloc: Global, workers: &str) -> Result<(), Fail> {
     let formula = "Pmax=? [ F<=2 P>=1 [ F \"goal\" ] ]";
     let text =
@@ -168,8 +168,8 @@ fn workers_of_every_number_write_the_same(rt: HostRuntime) -> Result<(), Fail> {
     nested_writes(&rt, rt.alloc(), "7")
 }
 
-/// Formulas of which one run alone passes the gate, since with `F<=0` no step is made: that of the outermost formula,
-/// and that of the one inside.
+/// Only one run of each formula passes the gate, because no step is made with `F<=0`. It is the run of the outermost
+/// formula in the first four, and that of the formula inside in the others.
 const OF_ONE_RUN: [&str; 7] = [
     "Pmax=? [ F P>=1 [ F<=0 \"goal\" ] ]",
     "Pmax=? [ G P<1 [ F<=0 \"goal\" ] ]",

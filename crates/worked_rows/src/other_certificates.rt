@@ -1,4 +1,4 @@
-//! Certificates that were written for another formula or another model: each is refused, or is right there too.
+//! These certificates were written for another formula or another model. Each is refused, or is also right there.
 
 use crate::models::FORK;
 use crate::printed_plans::MOST_OF_COIN_LOOP_WITH_PLAN;
@@ -9,7 +9,7 @@ use stogame_app::Status;
 
 const LEAST: &str = "Pmin=? [ F \"goal\" ]";
 
-// Models whose state 1 is the goal, asked for the least probability of reaching it, with the certificate.
+// These models are asked for the least probability of reaching state 1, with the certificate.
 const LEAST_OF_COIN_LOOP: Row<'static> = Row {
     formula: LEAST,
     ..MOST_OF_COIN_LOOP_WITH_PLAN
@@ -20,7 +20,7 @@ const LEAST_OF_LOOP_OR_COIN: Row<'static> = Row {
     ..MOST_OF_LOOP_OR_COIN
 };
 
-// The fork, asked for the greatest and for the least.
+// The fork is asked for the greatest and for the least probability.
 const MOST_OF_FORK: Row<'static> = Row {
     tra: FORK,
     ..MOST_OF_LOOP_OR_COIN
@@ -118,7 +118,7 @@ fn a_certificate_of_another_model_is_refused(rt: HostRuntime) -> Result<(), Fail
     printed_are_audited(&rt, rt.alloc(), OF_ANOTHER_MODEL)
 }
 
-// Bounds so loose that they are right for two models.
+// These bounds are so loose that they are right for two models.
 const LOOSE: &str =
     "certificate 2 3\n0 0.000000000000000 - 0 0.562949953421312 -\n1 1.000000000000000 - 0 1.000000000000000 -\n2 0.000000000000000 - 0 0.000000000000000 -\n";
 

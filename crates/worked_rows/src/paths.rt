@@ -1,4 +1,4 @@
-//! Paths with a bound on the steps, the next step, and what always holds.
+//! These paths have a bound on the steps, or are of the next step or of what always holds.
 
 use crate::checks::comes_to;
 use crate::tables::{Answer, Audited, all_write, answers_write, printed_are_audited};
@@ -13,21 +13,22 @@ use std::test::Fail;
 use std::thread::Threads;
 use stogame_app::Status;
 
-// State 0 chooses between a toss for the goal, state 2, and a step to state 1, which goes to the goal with nine tenths.
+// State 0 chooses between a toss for the goal, state 2, and a step to state 1, which goes to the goal with probability
+// nine tenths.
 const TOSS_OR_STEP: Row<'static> = Row {
     tra: "4 5 7\n0 0 2 0.5\n0 0 3 0.5\n0 1 1 1\n1 0 2 0.9\n1 0 3 0.1\n2 0 2 1\n3 0 3 1\n",
     lab: GOAL_AT_2,
     ..MOST_OF_COIN_LOOP
 };
 
-// State 0 goes to the goal with one third.
+// State 0 goes to the goal with probability one third.
 const ONE_THIRD: Row<'static> = Row {
     tra: "3 3 4\n0 0 1 1/3\n0 0 2 2/3\n1 0 1 1\n2 0 2 1\n",
     formula: "P>=1/3 [ X \"goal\" ]",
     ..MOST_OF_COIN_LOOP
 };
 
-// The game of two players.
+// Two players send each other to and fro.
 const OF_TWO_PLAYERS: Row<'static> = Row {
     tra: TO_AND_FRO,
     lab: GOAL_AT_3,
@@ -56,13 +57,13 @@ const WITHIN_STEPS: &[Answer<'static>] = &[
         "lower 0.000000000000000 upper 0.000000000000000 steps 0 Bracket",
         Status::Fine,
     ),
-    // State 0 is not a goal, and the left side holds there alone: after one step the rest is lost.
+    // State 0 is not a goal, and the left side holds only there, so after one step the rest is lost.
     (
         "Pmax=? [ \"init\" U<=1 \"goal\" ]",
         "lower 0.250000000000000 upper 0.250000000000000 steps 1 Bracket",
         Status::Fine,
     ),
-    // Further steps change nothing once each table is its own step.
+    // More steps change nothing when a step leaves each table unchanged.
     (
         "Pmax=? [ F<=1000000 \"goal\" ]",
         "lower 0.499999999999999 upper 0.500000000000000 steps 1000000 Bracket",
@@ -164,7 +165,7 @@ fn each_initial_state_has_its_steps(rt: HostRuntime) -> Result<(), Fail> {
     answers_write(&rt, rt.alloc(), command, "", STEPS_OF_TWO_STATES)
 }
 
-// The first player can toss a coin, and the second give the goal; who maximises `G` would not.
+// The first player can toss a coin, and the second player can give the goal, which it does not do if it maximises `G`.
 const ALWAYS_OF_COALITIONS: &[Answer<'static>] = &[
     (
         "<<p1>> Pmax=? [ G !\"goal\" ]",
@@ -189,7 +190,7 @@ fn a_coalition_has_what_always_holds(rt: HostRuntime) -> Result<(), Fail> {
     answers_write(&rt, rt.alloc(), command, "", ALWAYS_OF_COALITIONS)
 }
 
-// The choice to stay or toss, asked for what always holds.
+// The choice to stay or toss is asked for what always holds.
 const STAYS: Row<'static> = Row {
     tra: STAY_OR_COIN,
     lab: GOAL_AT_2,
@@ -198,7 +199,7 @@ const STAYS: Row<'static> = Row {
     numbers: NO_ROUNDS,
 };
 
-// Without a round the dual's upper bound is far too great; at the best exit of its trap it is the value.
+// Without a round the upper bound of the dual is too great. At the best exit of its trap it is the value.
 const RAISED: &[Case<'static>] = &[
     Case {
         command: Command::Check(STAYS),
@@ -314,7 +315,7 @@ const WRONG_KIND: &[Answer<'static>] = &[
     ),
 ];
 
-// So it is where a certificate is audited that is none. A label that there is not comes first.
+// An audit of a text that is no certificate is refused in the same way. An unknown label is refused first.
 const NO_CERTIFICATE: &[Case<'static>] = &[
     Case {
         command: Command::Audit(
@@ -348,7 +349,7 @@ fn certificates_and_traps_are_of_paths_without_a_bound(rt: HostRuntime) -> Resul
     all_write(&rt, alloc, NO_CERTIFICATE)
 }
 
-// The bounds are the same for every number of workers, and two of them run at once.
+// The bounds are the same for every number of workers.
 fn two_steps<R: Threads + Sync>(
     rt: &R,
     alloc: Global,

@@ -1,4 +1,4 @@
-//! Rows: files in memory and words, run, and what is written.
+//! This module runs rows, which are files in memory and words, and returns what is written.
 
 use crate::asked::check_words;
 use game_outside::{Gate, HeldFile, Name, Shelf, SteadyShelf, SteadySink};
@@ -7,7 +7,7 @@ use std::test::Fail;
 use std::thread::Threads;
 use stogame_app::{Status, run};
 
-/// A model in files, a formula, and the words of its numbers.
+/// A row has a model in files, a formula, and the words of its numbers.
 #[derive(Clone, Copy)]
 pub struct Row<'a> {
     pub tra: &'a str,
@@ -18,12 +18,12 @@ pub struct Row<'a> {
 }
 
 impl<'a> Row<'a> {
-    /// The same row with another formula.
+    /// Returns the same row with another formula.
     pub fn asked(self, formula: &'a str) -> Row<'a> {
         Row { formula, ..self }
     }
 
-    /// The same row with other numbers.
+    /// Returns the same row with other numbers.
     pub fn with_numbers(self, numbers: &'a [&'a str]) -> Row<'a> {
         Row { numbers, ..self }
     }
@@ -32,12 +32,12 @@ impl<'a> Row<'a> {
 /// With one worker the number of rounds is the same at each run.
 pub const ONE_WORKER: &[&str] = &["--workers", "1"];
 
-/// A file of this name.
+/// Makes a file of this name.
 pub fn file(alloc: Global, name: &str, text: &str) -> Result<HeldFile, Fail> {
     file_of_bytes(alloc, name, text.as_bytes())
 }
 
-/// A file of this name with these bytes.
+/// Makes a file of this name with these bytes.
 pub fn file_of_bytes(alloc: Global, name: &str, bytes: &[u8]) -> Result<HeldFile, Fail> {
     let Ok(name) = Name::from_bytes(alloc, name.as_bytes()) else {
         return Err(Fail::new("no memory"));
@@ -48,7 +48,7 @@ pub fn file_of_bytes(alloc: Global, name: &str, bytes: &[u8]) -> Result<HeldFile
     })
 }
 
-/// The files of a row.
+/// Makes the files of a row.
 pub fn files(alloc: Global, row: Row<'_>) -> Result<Vec<HeldFile>, Fail> {
     let mut files = Vec::new(alloc);
     files.push(file(alloc, "m.tra", row.tra)?)?;
@@ -59,7 +59,7 @@ pub fn files(alloc: Global, row: Row<'_>) -> Result<Vec<HeldFile>, Fail> {
     Ok(files)
 }
 
-/// Adds so many times the same part to a text.
+/// Adds the same part to a text this many times.
 pub fn push_times(text: &mut String, part: &str, times: u32) -> Result<(), Fail> {
     for _ in 0..times {
         text.push_str(part)?;
@@ -67,7 +67,7 @@ pub fn push_times(text: &mut String, part: &str, times: u32) -> Result<(), Fail>
     Ok(())
 }
 
-/// These words.
+/// Makes owned copies of these words.
 pub fn words(alloc: Global, words: &[&str]) -> Result<Vec<String>, Fail> {
     let mut owned = Vec::new(alloc);
     add_words(alloc, &mut owned, words)?;
@@ -82,7 +82,7 @@ pub fn add_words(alloc: Global, owned: &mut Vec<String>, words: &[&str]) -> Resu
     Ok(())
 }
 
-/// How a row ends over a shelf and a sink that never fail, and what it writes.
+/// Runs a row over a shelf and a sink that never fail, and says how it ends and what it writes.
 pub fn runs<R: Threads + Sync, G: Gate + Sync>(
     rt: &R,
     alloc: Global,
@@ -94,7 +94,7 @@ pub fn runs<R: Threads + Sync, G: Gate + Sync>(
     ends(rt, alloc, &words, &mut shelf, gate)
 }
 
-/// How a run with these words ends over a shelf, and what it writes to a sink that never fails.
+/// Runs these words over a shelf and a sink that never fails, and says how the run ends and what it writes.
 pub fn ends<R: Threads + Sync, H: Shelf, G: Gate + Sync>(
     rt: &R,
     alloc: Global,

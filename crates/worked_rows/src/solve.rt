@@ -1,4 +1,4 @@
-//! Bounds that a solver finds and the checks of an audit accept.
+//! A solver finds these bounds, and the checks of an audit accept them.
 
 use crate::models::{GOAL_AT_2, TWO_PLAYERS};
 use crate::tables::{Answer, Audited, all_write, answers_write, printed_are_audited, prints};
@@ -11,12 +11,12 @@ use stogame_app::Status;
 
 const REACH: &str = "Pmax=? [ F \"goal\" ]";
 
-// The certificate is written.
+// The words ask for the certificate.
 const PLAN: &[&str] = &["--plan"];
 
 const HALF: &str = "state 0 lower 0.500000000000000 upper 0.500000000000000 solved Bracket\n";
 
-// The coin loop, whose words name no number.
+// The words of the coin loop name no number.
 const OF_COIN_LOOP: Row<'static> = Row {
     tra: COIN_LOOP,
     lab: GOAL_AT_1,
@@ -75,7 +75,7 @@ fn bounded_paths_have_the_lines_of_check(rt: HostRuntime) -> Result<(), Fail> {
     answers_write(&rt, rt.alloc(), command, "state 0 ", OF_STEPS)
 }
 
-// From state 0 a goal comes with one half, and within three steps with less.
+// From state 0 the goal is reached with probability one half, and within three steps with less.
 const WITH_INSIDE: &[Answer<'static>] = &[
     (
         "P>=1 [ F P>=0.5 [ F \"goal\" ] ]",
@@ -133,7 +133,7 @@ fn certificates_and_values_are_of_unbounded_paths(rt: HostRuntime) -> Result<(),
     answers_write(&rt, rt.alloc(), begun, front, NO_PLAN)
 }
 
-// Israeli and Jalfon's ring of three processes (1990): a scheduler moves tokens, and a coin decides where to.
+// In Israeli and Jalfon's ring of three processes (1990), a scheduler moves tokens, and a coin decides where to.
 const RING: &[Case<'static>] = &[Case {
     command: Command::Solve(
         Row {
@@ -175,7 +175,7 @@ fn games_of_two_players_are_solved(rt: HostRuntime) -> Result<(), Fail> {
     all_write(&rt, rt.alloc(), GAMES)
 }
 
-// State 0 tosses a coin until it falls on the goal, state 1; from state 2 there is no way to it.
+// State 0 tosses a coin until it falls on the goal, state 1. From state 2 there is no way to the goal.
 const COIN: Row<'static> = Row {
     tra: "3 3 4\n0 0 0 0.5\n0 0 1 0.5\n1 0 1 1\n2 0 2 1\n",
     lab: "0=\"init\" 1=\"goal\"\n0: 0\n1: 0 1\n2: 0\n",
@@ -218,14 +218,15 @@ fn values_to_begin_with_change_no_answer(rt: HostRuntime) -> Result<(), Fail> {
     all_write(&rt, rt.alloc(), FROM_VALUES)
 }
 
-// Three states that lead round, each to the next, and out of the ring: state 3 is the goal.
+// Three states lead round a ring, each to the next, and out of the ring. State 3 is the goal.
 const RING_WITH_EXITS: Row<'static> = Row {
     tra: "5 5 9\n0 0 1 0.5\n0 0 3 0.4\n0 0 4 0.1\n1 0 2 0.5\n1 0 4 0.5\n2 0 0 0.8\n2 0 4 0.2\n3 0 3 1\n4 0 4 1\n",
     lab: GOAL_AT_3,
     ..OF_COIN_LOOP
 };
 
-// Values of five states: all below those of the game, all above, no numbers, those of other states, of some states.
+// These are values of five states: all too low, all too high, no numbers, those of other states, and those of some
+// states only.
 const BEGUN: &[&str] = &[
     "0\n0\n0\n0\n0\n",
     "1\n1\n1\n1\n1\n",
@@ -234,7 +235,7 @@ const BEGUN: &[&str] = &[
     "4=1\n2=0.7\n",
 ];
 
-// The solution of the row from each of these values writes this text.
+// If the row is solved from each of these values, it writes this text.
 fn each_begun_writes<R: Threads + Sync>(
     rt: &R,
     alloc: Global,

@@ -1,4 +1,4 @@
-//! The states from which the goal is reached almost surely.
+//! From these states the goal is reached almost surely.
 
 use crate::models::FORK;
 use crate::tables::all_write;
@@ -6,7 +6,7 @@ use crate::{Case, Command, MOST_OF_AGREEMENT, MOST_OF_COIN_LOOP, Row};
 use std::test::Fail;
 use stogame_app::Status;
 
-// A coin that is tossed until it falls on the goal.
+// A coin is tossed until it falls on the goal.
 const COIN: &str = "3 3 4\n0 0 0 0.5\n0 0 1 0.5\n1 0 1 1\n2 0 2 1\n";
 
 // State 0 may wait, or toss a coin that may fall on the trap.
@@ -56,7 +56,7 @@ const SURE_STATES: &[Case<'static>] = &[
         text: "sure 1 of 3\n1\n",
         status: Status::SomeFalse,
     },
-    // The threshold plays no part but in the side: what holds of every strategy is asked of the worst one.
+    // Only the side of the threshold counts: what has to hold for every strategy is asked of the worst one.
     Case {
         command: Command::Sure(Row {
             formula: "P<0.2 [ F \"goal\" ]",

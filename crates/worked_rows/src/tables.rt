@@ -1,4 +1,4 @@
-//! Commands over a shelf and a sink that never fail, and tables of them: each writes what stands beside it.
+//! These are commands over a shelf and a sink that never fail, and tables of them. Each writes what its row says.
 
 use crate::checks::comes_to;
 use crate::{Case, Command, Row, ends, writes};
@@ -9,13 +9,14 @@ use std::test::Fail;
 use std::thread::Threads;
 use stogame_app::Status;
 
-/// A formula, the end of the text that it gives, and how the command ends.
+/// An answer has a formula, the end of the text that it gives, and how the command ends.
 pub type Answer<'a> = (&'a str, &'a str, Status);
 
-/// A command that prints a certificate, the row for which that is audited, and the text and the end of the audit.
+/// An audited row has a command that prints a certificate, the row for which the certificate is audited, and the text
+/// and the end of the audit.
 pub type Audited<'a> = (Command<'a>, Row<'a>, &'a str, Status);
 
-// How a command ends over a shelf and a sink that never fail, and what it writes.
+// Runs a command over a shelf and a sink that never fail, and says how it ends and what it writes.
 fn printed<R: Threads + Sync>(
     rt: &R,
     alloc: Global,
@@ -82,8 +83,8 @@ pub fn all_write<R: Threads + Sync>(rt: &R, alloc: Global, cases: &[Case<'_>]) -
     Ok(())
 }
 
-/// The command, asked each of these formulas in place of its own, writes this front, the end that stands beside the
-/// formula, and LF.
+/// The command, asked each of these formulas in place of its own, writes this front, the end that the row of the
+/// formula has, and LF.
 pub fn answers_write<R: Threads + Sync>(
     rt: &R,
     alloc: Global,
@@ -113,7 +114,7 @@ fn audit_prints<R: Threads + Sync>(
     prints(rt, alloc, Command::Audit(row, certificate), text, status)
 }
 
-/// What each of these commands prints is audited, for the row beside it, with the text and the end beside that.
+/// What each of these commands prints is audited for the row beside it, and gives the text and the end that follow.
 pub fn printed_are_audited<R: Threads + Sync>(
     rt: &R,
     alloc: Global,

@@ -1,4 +1,4 @@
-//! Upper tables that are lowered to the best exits of traps.
+//! These upper tables are lowered to the best exits of traps.
 
 use crate::tables::{Audited, all_write, printed_are_audited};
 use crate::{COIN_LOOP, Case, Command, GOAL_AT_1, Row};
@@ -6,15 +6,15 @@ use std::test::Fail;
 use stogame_app::Status;
 
 /// State 0 stays where it is, or tosses a coin between the goal, state 2, and a lost state. State 1 tosses until its
-/// coin falls: no small guess is inductive there.
+/// coin falls, so no small guess is inductive there.
 pub const STAY_OR_COIN: &str =
     "4 5 8\n0 0 0 1\n0 1 2 0.5\n0 1 3 0.5\n1 0 1 0.5\n1 0 2 0.25\n1 0 3 0.25\n2 0 2 1\n3 0 3 1\n";
 
 /// State 2 is the goal.
 pub const GOAL_AT_2: &str = "0=\"init\" 1=\"goal\"\n0: 0\n2: 1\n";
 
-/// Two players send each other to and fro: the first one, at state 0, may toss a coin instead, and the second, at state
-/// 1, give the goal. State 2 tosses until its coin falls.
+/// Two players send each other to and fro. The first player, at state 0, may toss a coin instead, and the second
+/// player, at state 1, may give the goal. State 2 tosses until its coin falls.
 pub const TO_AND_FRO: &str =
     "5 7 10\n0 0 1 1\n0 1 3 0.5\n0 1 4 0.5\n1 0 0 1\n1 1 3 1\n2 0 2 0.5\n2 0 3 0.25\n2 0 4 0.25\n3 0 3 1\n4 0 4 1\n";
 
@@ -120,7 +120,7 @@ fn lowered_certificates_are_accepted(rt: HostRuntime) -> Result<(), Fail> {
     printed_are_audited(&rt, rt.alloc(), LOWERED)
 }
 
-// The loop of a coin has an exit at each toss: it is no trap.
+// The coin loop has an exit at each toss, so it is no trap.
 const NO_TRAP: &[Case<'static>] = &[Case {
     command: Command::Check(Row {
         tra: COIN_LOOP,

@@ -1,4 +1,4 @@
-//! Values of models.
+//! These are the values of models.
 
 use crate::models::{FORK, GOAL_AT_2, TWO_PLAYERS};
 use crate::tables::all_write;
@@ -66,7 +66,7 @@ fn states_of_value_0_have_the_upper_bound_0(rt: HostRuntime) -> Result<(), Fail>
     all_write(&rt, rt.alloc(), OF_VALUE_0)
 }
 
-// Models whose state 0 goes to the goal, state 1, and to the other states.
+// In these models state 0 goes to the goal, state 1, and to other states.
 const THIRDS: &str =
     "4 4 6\n0 0 1 0.33333333333333331\n0 0 2 0.33333333333333331\n0 0 3 0.33333333333333331\n1 0 1 1\n2 0 2 1\n3 0 3 1\n";
 

@@ -1,10 +1,10 @@
-//! The states of value 0: those from which the minimiser keeps the maximiser from the goals for ever, with
-//! probability 1 (Prob0 of Baier and Katoen 2008, chapter 10, for two players).
+//! This crate finds the states of value 0: those from which the minimiser keeps the maximiser from the goals for ever,
+//! with probability 1 (Prob0 of Baier and Katoen 2008, chapter 10, for two players).
 //!
-//! [`zero_set`] gives them. [`zero_set_over`] does so over lists of predecessors that the caller has.
+//! [`zero_set`] gives them. [`zero_set_over`] gives them from lists of predecessors that the caller has.
 //!
-//! It is the complement of the attractor of the goals among the states that are not dead: from a member a goal is
-//! reached with a positive probability, and from no other state is it.
+//! They are the complement of the attractor of the goals among the states that are not dead: a goal is reached with a
+//! positive probability from each member of it, and from no other state.
 #![tactic(auto)]
 
 ghost use Rattle.std.specs.Prelude.{IfOk};
@@ -17,7 +17,7 @@ use game_outside::OutOfMemory;
 use predecessors::Predecessors;
 use std::alloc::Global;
 
-/// The states whose value is 0 at every horizon. The only error is want of memory.
+/// Returns the states whose value is 0 at every horizon. The only error is that memory ran out.
 pub fn zero_set(alloc: Global, question: &Question) -> Result<Marks, OutOfMemory>
     ensures { IfOk result (λ marks. IsZeroSet question.now marks) }
 {
@@ -25,8 +25,8 @@ pub fn zero_set(alloc: Global, question: &Question) -> Result<Marks, OutOfMemory
     zero_set_over(alloc, question, &predecessors)
 }
 
-/// The states whose value is 0 at every horizon, over the predecessors in the question's game (Baier and
-/// Katoen 2008, chapter 10, Prob0). The only error is want of memory.
+/// Returns the states whose value is 0 at every horizon, from the predecessors in the question's game (Baier and Katoen
+/// 2008, chapter 10, Prob0). The only error is that memory ran out.
 pub fn zero_set_over(
     alloc: Global,
     question: &Question,

@@ -1,14 +1,14 @@
--- What a step over a table asks and leaves, for the states in a row from one on.
+-- A step over a table fills a part for the states in a row from one on.
 use Rattle.std.specs.Prelude.{ℕ, ◌+◌, ◌≤◌, Bool, List, length}
 use Rattle.game_model.specs.Query.{states}
 use Rattle.fixed_bellman.specs.declared.bounds.Bounds.{Bounds}
 use Rattle.bounded_rounds.specs.declared.tables.Tables.{Tables}
 use Rattle.bounded_rounds.specs.inside.Parts.{IsStepped}
 
--- the part has an entry for each of these states
+-- Each entry of the part is for one of these states.
 abbrev pub IsPartFrom : Tables → ℕ → List Bounds → Type 0
 IsPartFrom tables first part = first + length part ≤ states tables.question.now
 
--- the part has the steps of so many states
+-- The part has the steps of `count` states.
 abbrev pub IsStepOf : Tables → ℕ → ℕ → List Bounds → Bool → Type 0
 IsStepOf tables first count part changed = IsStepped tables.question.now tables.table.now first count part changed

@@ -1,4 +1,4 @@
-//! Laws of brackets: how near rounded steps and sweeps are to exact values.
+//! These laws say how near rounded steps and sweeps are to exact values.
 
 ghost use Rattle.std.specs.Prelude.{ℕ, ◌*◌, ◌^◌, ◌<◌, List, Bool, slice_index};
 ghost use Rattle.game_model.specs.Query.{Query, IsQuery, states};
@@ -23,7 +23,7 @@ pub fn bounded_values_are_bracketed()
 {}
 
 /// Without goals and dead states, a sweep of one step from the unit at some states and 0 elsewhere brackets the
-/// probability that one of those is next, within one unit.
+/// probability that one of those states is next, within one unit.
 pub fn next_values_are_bracketed()
     ensures { (q : Query) (table : ℕ → ℕ) (holds : ℕ → Bool) (lower upper : List ℕ) → IsQuery q → IsNext q table holds
         → IsSweep q table 1 lower upper →

@@ -1,4 +1,4 @@
-//! Laws of opening tables: what the steps from them are.
+//! These laws say what the steps from opening tables are.
 
 ghost use Rattle.std.specs.Prelude.{◌≡◌, ℕ, ◌*◌, ◌<◌, Bool};
 ghost use Rattle.game_model.specs.Query.{Query, IsQuery, states};
@@ -19,7 +19,7 @@ pub fn down_steps_are_those_of_iteration()
 {}
 
 /// Without goals and dead states, from the unit at some states and 0 elsewhere, the exact value of one step is the
-/// probability that one of those is next.
+/// probability that one of those states is next.
 pub fn one_step_is_the_next_value()
     ensures { (q : Query) (table : ℕ → ℕ) (holds : ℕ → Bool) → IsQuery q → IsNext q table holds →
         (s : ℕ) → s < states q → exact_from q table 1 s ≡ unit * next_numerator q holds s }

@@ -1,4 +1,4 @@
-//! Laws of what sweeps have in common.
+//! These laws say what sweeps have in common.
 
 ghost use Rattle.std.specs.Prelude.{◌≡◌, ℕ, ◌<◌, List};
 ghost use Rattle.game_model.specs.Query.{Query, IsQuery, states};

@@ -1,4 +1,4 @@
--- Two races that are over.
+-- This module defines when the rounds of two races are over: one on a question, and one on its swapped question.
 use Rattle.std.specs.Prelude.{◌≡◌, ℕ, ◌<◌, ◌≤◌, ◌⊎◌, Bool, true, List, Option, None, IfSome, is_some}
 use Rattle.game_model.specs.Query.{Query}
 use Rattle.game_model.specs.Rounded.{IsSettled}
@@ -12,8 +12,8 @@ use Rattle.bracket_engine.specs.declared.race.Racers.{Racers}
 use Rattle.bracket_engine.specs.declared.stopping.SettlingGuess.{SettlingGuess}
 use Rattle.bracket_engine.specs.Stop.{EndsWhereSettled, IsSettlingGuess}
 
--- the rounds of two races that left these values are over, after at most the asked ones: before, where the last round
--- changed nothing on either or where a guess settled the threshold at the initial states
+-- The rounds of two races that left these values are over, after at most the asked rounds. They end early only if the
+-- last round changed nothing on either, or if a guess settled the threshold at the initial states.
 pub record IsEnd (q swapped_question : Query) (zero : List Bool) (bound : Bound) (initial : List ℕ) (asked : ℕ)
     (lower swapped_value : ℕ → ℕ) (rounds : ℕ) (still : Bool) (guess : Option SettlingGuess) : Type 0 where
   pub few : rounds ≤ asked
@@ -23,7 +23,7 @@ pub record IsEnd (q swapped_question : Query) (zero : List Bool) (bound : Bound)
   pub early : rounds < asked → (still ≡ true) ⊎ (is_some guess ≡ true)
   pub in_time : EndsWhereSettled q swapped_question bound initial rounds
 
--- two races that raced for as many rounds, and whose rounds are over, by the values that were read last
+-- Two races made equally many rounds, and the values that were read last show that their rounds are over.
 pub record HaveRaced {P C : Type 0} {h i : _} (q swapped_question : Query) (zero : List Bool) (bound : Bound)
     (initial : List ℕ) (asked : ℕ) (racers : Racers P C h i) : Type 0 where
   pub lower : IsRacing q racers.rounds racers.lower.pass racers.lower.agenda
@@ -31,7 +31,7 @@ pub record HaveRaced {P C : Type 0} {h i : _} (q swapped_question : Query) (zero
   pub end : IsEnd q swapped_question zero bound initial asked (read_of racers.lower.agenda)
       (read_of racers.swapped.agenda) racers.rounds racers.quiet racers.kept
 
--- the closed words of two races whose rounds are over
+-- These are the closed words of two races whose rounds are over.
 pub record AreOver (q swapped_question : Query) (zero : List Bool) (bound : Bound) (initial : List ℕ) (asked : ℕ)
     (raced : Raced) : Type 0 where
   pub words : IsRaced q raced.words raced.rounds

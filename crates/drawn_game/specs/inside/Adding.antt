@@ -1,8 +1,8 @@
--- How a part joins edges.
+-- This module defines how a part is added to edges.
 use Rattle.std.specs.Prelude.{◌+◌, ◌==◌, nat_lt, List, [], ◌∷◌, if◌then◌else◌}
 use Rattle.game_model.specs.declared.game.Edge.{Edge}
 
--- edges by rising destination, with one part more
+-- One more part is added to edges in the order of their successors.
 abbrev pub with_part : List Edge → Edge → List Edge
 with_part [] part = part ∷ []
 with_part (e ∷ edges) part =

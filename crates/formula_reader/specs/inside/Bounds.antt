@@ -1,4 +1,4 @@
--- The bound of a comparison with a threshold.
+-- A comparison with a threshold is a bound.
 use Rattle.fractions.specs.Fraction.{Fraction}
 use Rattle.formula_reader.specs.declared.formula.Comparison.{Comparison}
 use Rattle.formula_reader.specs.declared.formula.Comparison.TheVariants.{AtLeast as at_least, Above as above}
@@ -6,7 +6,7 @@ use Rattle.formula_reader.specs.declared.formula.Comparison.TheVariants.{AtMost 
 use Rattle.formula_reader.specs.declared.formula.Bound.{Bound}
 use Rattle.formula_reader.specs.declared.formula.Bound.TheVariants.{AtLeast, Above, AtMost, Below}
 
--- the bound that compares a probability so with this threshold
+-- This is the bound that makes this comparison with the threshold.
 abbrev pub bound_with : Comparison → Fraction → Bound
 bound_with at_least p = AtLeast p
 bound_with above p = Above p

@@ -1,4 +1,4 @@
-//! Laws of coarse bounds. Each function does nothing: its contract is the law.
+//! This module has the laws of coarse bounds. Each function does nothing: its contract is the law.
 
 ghost use Rattle.std.specs.Prelude.{◌<◌, ◌≤◌, ℕ, All, List};
 ghost use Rattle.game_model.specs.Game.{IsGame};
@@ -12,8 +12,7 @@ ghost use Rattle.formula_truth.specs.Bands.{Band, Bands, known, undecided_in};
 ghost use Rattle.formula_truth.specs.Runs.{AreFound, AreFoundBy};
 ghost use Rattle.formula_truth.specs.Coarse.{AreCoarse, AreOpenWithin, AreWithin, IsCoarse, IsFiner};
 
-/// There are coarse bounds: of the formulas inside every state formula, and of every formula, after every number of
-/// rounds.
+/// The formulas inside every state formula have coarse bounds after every number of rounds, and so has every formula.
 pub fn there_are_coarse_bounds()
     ensures inside { (m : Model) (x : State) (asked : ℕ) → IsGame m.game
         → (bands : Bands x) × AreCoarse m asked x bands }
@@ -21,9 +20,9 @@ pub fn there_are_coarse_bounds()
         → (left : Bands f.left) × (right : Bands f.right) × (band : Band) × IsCoarse m f asked left right band }
 {}
 
-/// Where a state formula surely holds or surely fails by coarse bounds of the formulas inside, it does by those that
-/// runs of as many rounds find, though a run may end early: they leave a formula inside undecided only where the coarse
-/// ones do.
+/// If a state formula surely holds or surely fails at a state by coarse bounds of the formulas inside, it does so by
+/// the bounds that runs of as many rounds find, though a run may end early. These leave a formula inside undecided only
+/// where the coarse ones do.
 pub fn undecided_only_where_coarse_bounds_are()
     ensures finer { (m : Model) (asked : ℕ) (x : State) (found coarse : Bands x) → IsGame m.game → HasParts x
         → AreFound m (ByRounds asked) x found → AreCoarse m asked x coarse
@@ -34,8 +33,8 @@ pub fn undecided_only_where_coarse_bounds_are()
     ensures fewer { (m : Model) (asked : ℕ) (x : State) (found coarse : Bands x) → IsGame m.game → HasParts x
         → AreFound m (ByRounds asked) x found → AreCoarse m asked x coarse
         → undecided_in x found (states m) ≤ undecided_in x coarse (states m) }
-    // So is the outermost formula at the states where its run looks. If it asks for a value its bounds lie within the
-    // coarse ones there.
+    // The same is true of the outermost formula at the states where its run looks. If it asks for a value, its bounds
+    // lie within the coarse ones there.
     ensures outermost { (m : Model) (f : Tree) (asked : ℕ) (starts : List ℕ) (left coarse_left : Bands f.left)
         (right coarse_right : Bands f.right) (band coarse : Band) (how : How)
         → IsGame m.game → HasShare f.bound → HasParts f.left → HasParts f.right → All (λ s. s < states m) starts

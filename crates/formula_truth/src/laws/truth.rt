@@ -1,4 +1,4 @@
-//! Laws of truth and of values. Each function does nothing: its contract is the law.
+//! This module has the laws of truth and of values. Each function does nothing: its contract is the law.
 
 ghost use Rattle.std.specs.Prelude.{◌≡◌, ◌<◌, ◌≤◌, ℕ, List, Bool, true};
 ghost use Rattle.game_model.specs.Game.{IsGame};
@@ -8,12 +8,12 @@ ghost use Rattle.formula_reader.specs.Formula.{Tree};
 ghost use Rattle.formula_sets.specs.Posing.{Model};
 ghost use Rattle.formula_truth.specs.Truth.{IsTruth, Valuation, states};
 
-/// Each model has a truth: a valuation in which each formula is true at exactly the states where it is.
+/// Each model has a truth: a valuation which says that each formula is true at exactly the states where it is true.
 pub fn there_is_a_truth()
     ensures { (m : Model) → IsGame m.game → (truth : Valuation) × IsTruth m truth }
 {}
 
-/// There is at most one truth: two valuations that are true of every formula say the same at all states.
+/// There is at most one truth: two valuations that are the truth say the same of every formula at all states.
 pub fn there_is_one_truth()
     ensures { (m : Model) (valuation other : Valuation) → IsGame m.game → IsTruth m valuation → IsTruth m other
         → (f : Tree) (s : ℕ) → s < states m → valuation f s ≡ other f s }

@@ -1,4 +1,4 @@
--- The spelling in a number as it is written.
+-- This module defines the spelling of a number as it is written.
 use Rattle.std.specs.Prelude.{◌≡◌, ◌≤◌, ℕ, ◌-◌, ◌^◌, true, List, length}
 use Rattle.text_lines.specs.Text.{is_digit, all_digits, value_onto}
 use Rattle.fractions.specs.declared.tens.Tens.{Tens}
@@ -7,16 +7,16 @@ use Rattle.fractions.specs.declared.number.Written.{Written}
 use Rattle.fractions.specs.declared.number.Written.TheVariants.{Point, Line}
 use Rattle.fractions.specs.Number.{Exponent, Spelling, Decimal, Quotient}
 
--- the exponent of a number as it is written: whether it is below zero, and its digits
+-- This is the exponent of a number as it is written.
 abbrev pub exponent_in : Power → Exponent
 exponent_in power = record { below = power.below; digits = power.digits.now }
 
--- the digits before and behind the point with the exponent, or those above and below the line, of a number as written
+-- This is the spelling of a number as it is written.
 abbrev pub spelling_in : Written → Spelling
 spelling_in (Point front back power) = Decimal front.now back.now (exponent_in power)
 spelling_in (Line above below) = Quotient above.now below.now
 
--- so many digits over a power of ten are a digit, a point and these digits, few enough for 64 bits
+-- This fraction over a power of ten is written as a digit, a point and these digits, which are few enough for 64 bits.
 pub record AreDecimal (front : ℕ) (back : List ℕ) (tens : Tens) : Type 0 where
   pub front_digit : is_digit front ≡ true
   pub back_digits : all_digits back ≡ true

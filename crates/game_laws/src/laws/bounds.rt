@@ -1,4 +1,4 @@
-//! Laws of bounds: what low, near and high tables say of a bound a/b.
+//! This module has the laws of bounds: what low, near and high tables say of a bound a/b.
 
 ghost use Rattle.std.specs.Prelude.{ℕ, ◌*◌, ◌<◌, ◌≤◌};
 ghost use Rattle.game_model.specs.Query.{Query, IsQuery, states};

@@ -1,4 +1,4 @@
-//! A gate that shows that two workers work at once.
+//! This module has a gate that shows that two workers work at once.
 
 ghost use Rattle.std.specs.Prelude.{◌≡◌};
 
@@ -6,11 +6,11 @@ use crate::gate::Gate;
 use std::sync::atomic::{AtomicBool, Ordering};
 use std::thread;
 
-/// How many turns a worker is held, where nothing else is said.
+/// A worker is held for this many turns, unless another number is given.
 const TURNS: u32 = 10_000_000;
 
-/// A gate that holds the first arrivals of the workers 0 and 1 until both have arrived, for a number of
-/// turns each. Where the two run one after another, it gives up. No clause says that it holds anybody.
+/// This gate holds the first arrivals of the workers 0 and 1 until both have arrived, for a number of turns each. If
+/// the two run one after another, it gives up. No clause says that it holds anybody.
 #[derive(Drop)]
 pub struct HoldGate {
     turns: u32,
@@ -20,14 +20,14 @@ pub struct HoldGate {
 }
 
 impl HoldGate {
-    /// A gate where nobody has arrived.
+    /// Returns a gate at which nobody has arrived.
     pub fn new() -> HoldGate
         ensures { result.turns ≡ TURNS }
     {
         HoldGate::holding_for(TURNS)
     }
 
-    /// The same, which holds a worker for so many turns.
+    /// Returns the same gate, which holds a worker for this many turns.
     pub fn holding_for(turns: u32) -> HoldGate
         ensures { result.turns ≡ turns }
     {
@@ -39,12 +39,12 @@ impl HoldGate {
         }
     }
 
-    /// Whether a worker's turns ran out before the other arrived.
+    /// Returns whether a worker's turns ran out before the other arrived.
     pub fn gave_up(&self) -> bool {
         self.gave_up.load(Ordering::SeqCst)
     }
 
-    // Marks that a worker has arrived and, where it does so for the first time, holds it for the other.
+    // Marks that a worker has arrived. If it arrives for the first time, it is held for the other.
     fn hold(&self, arrived: &AtomicBool, other: &AtomicBool) {
         if arrived.swap(true, Ordering::SeqCst) {
             return;

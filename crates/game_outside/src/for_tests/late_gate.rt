@@ -1,4 +1,4 @@
-//! A gate that shows that a worker reads what others have just raised.
+//! This module has a gate that shows that a worker reads what others have just raised.
 
 ghost use Rattle.std.specs.Prelude.{◌≡◌};
 
@@ -6,24 +6,24 @@ use crate::gate::Gate;
 use std::sync::atomic::{AtomicBool, AtomicU64, Ordering};
 use std::thread;
 
-/// How many turns a worker is held, where nothing else is said.
+/// A worker is held for this many turns, unless another number is given.
 const TURNS: u32 = 10_000_000;
 
-/// A gate that holds the first arrival of one worker until the others have arrived so often in all, for a number of
-/// turns. Where they don't, it gives up. No clause says that it holds anybody.
+/// This gate holds the first arrival of one worker until the others have arrived this often in all, for a number of
+/// turns. If they don't, it gives up. No clause says that it holds anybody.
 #[derive(Drop)]
 pub struct LateGate {
     turns: u32,
     held: u32,
     others: u32,
     arrived: AtomicBool,
-    // So wide that no run comes to its end.
+    // The count is so wide that no run comes to its end.
     arrivals: AtomicU64,
     gave_up: AtomicBool,
 }
 
 impl LateGate {
-    /// A gate that holds this worker until the others have arrived so often.
+    /// Returns a gate that holds this worker until the others have arrived this often.
     pub fn new(held: u32, others: u32) -> LateGate
         ensures held { result.held ≡ held }
         ensures others { result.others ≡ others }
@@ -32,7 +32,7 @@ impl LateGate {
         LateGate::holding_for(held, others, TURNS)
     }
 
-    /// The same, which holds the worker for so many turns.
+    /// Returns the same gate, which holds the worker for this many turns.
     pub fn holding_for(held: u32, others: u32, turns: u32) -> LateGate
         ensures held { result.held ≡ held }
         ensures others { result.others ≡ others }
@@ -48,12 +48,12 @@ impl LateGate {
         }
     }
 
-    /// Whether the worker's turns ran out before the others had arrived so often.
+    /// Returns whether the worker's turns ran out before the others had arrived this often.
     pub fn gave_up(&self) -> bool {
         self.gave_up.load(Ordering::SeqCst)
     }
 
-    // Holds the worker for the others where it arrives for the first time.
+    // Holds the worker for the others if it arrives for the first time.
     fn hold(&self) {
         if self.arrived.swap(true, Ordering::SeqCst) {
             return;

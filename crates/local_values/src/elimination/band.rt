@@ -1,11 +1,10 @@
-//! A square matrix that is 0 outside a band, and its elimination.
+//! This module eliminates a square matrix that is 0 outside a band.
 
 ghost use Rattle.std.specs.Prelude.{◌≡◌, ◌+◌, ◌*◌, ◌^◌, ◌<◌, ◌≤◌, length};
 
 use crate::vectors::add_scaled;
 
-/// The shape of a band: row `i` has the columns from `i - back` on, each at `column + back - i` in its row of `width`
-/// cells.
+/// Row `i` of a band has the columns from `i - back` on, each at `column + back - i` in its row of `width` cells.
 #[derive(Clone, Copy)]
 pub struct Shape {
     pub rows: usize,
@@ -18,7 +17,7 @@ pub struct Shape {
 }
 
 impl Shape {
-    /// The shape of so many rows, and of columns so far back and forth.
+    /// Returns the shape of this many rows, whose columns reach this far back and forth.
     pub(crate) fn of_band(rows: usize, back: u32, forth: u32) -> Shape
         requires rows { rows < 2 ^ 31 }
         requires narrow { back + forth + 1 < 2 ^ 32 }
@@ -32,21 +31,21 @@ impl Shape {
         }
     }
 
-    /// How many cells there are.
+    /// Returns the number of cells.
     pub(crate) fn cells(self) -> usize
         ensures { result ≡ self.rows * self.width }
     {
         self.rows * self.width
     }
 
-    /// How far columns lie behind the diagonal.
+    /// Returns how far columns reach behind the diagonal.
     pub(crate) fn forth(self) -> usize
         ensures { self.back + result + 1 ≡ self.width }
     {
         self.width - 1 - self.back
     }
 
-    /// Where a row begins.
+    /// Returns where a row begins.
     pub(crate) fn begin(self, row: usize) -> usize
         requires { row < self.rows }
         ensures value { result ≡ row * self.width }
@@ -56,7 +55,7 @@ impl Shape {
     }
 }
 
-/// A row of the first `rows` rows.
+/// Returns one of the first `rows` rows.
 pub(crate) fn row_of(cells: &mut [f64], width: usize, row: usize, rows: usize) -> &mut [f64]
     requires row { row < rows }
     requires room { rows * width ≡ length cells.old }
@@ -68,7 +67,7 @@ pub(crate) fn row_of(cells: &mut [f64], width: usize, row: usize, rows: usize) -
 }
 
 /// Takes all rows out, from the last to the first. What leaves each row, for rows before it or for good, is put in a
-/// list; behind the diagonal stands then by what factor a row was added to another.
+/// list. Each cell behind the diagonal then has the factor by which a row was added to another.
 pub(crate) fn eliminate(shape: Shape, cells: &mut [f64], leaks: &mut [f64], outs: &mut [f64])
     requires cells { length cells.old ≡ shape.rows * shape.width }
     requires leaks { length leaks.old ≡ shape.rows }
@@ -79,7 +78,7 @@ pub(crate) fn eliminate(shape: Shape, cells: &mut [f64], leaks: &mut [f64], outs
     }
 }
 
-/// Takes a row out of those before it. Gives what leaves it.
+/// Takes a row out of those before it, and returns what leaves it.
 fn take_out(shape: Shape, cells: &mut [f64], leaks: &mut [f64], row: usize) -> f64
     requires cells { length cells.old ≡ shape.rows * shape.width }
     requires leaks { length leaks.old ≡ shape.rows }

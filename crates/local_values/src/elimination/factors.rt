@@ -1,4 +1,4 @@
-//! What an elimination did, to solve by.
+//! This module keeps what an elimination did, to solve by it.
 
 ghost use Rattle.std.specs.Prelude.{◌≡◌, ◌+◌, ◌*◌, ◌^◌, ◌<◌, ◌≤◌, EachIndex, IfOk, length, slice_get, vec_len};
 ghost use Rattle.std.specs.Float.{float_zero};
@@ -10,7 +10,7 @@ use float_games::{Band, Chain};
 use game_outside::OutOfMemory;
 use std::alloc::Global;
 
-/// The factors of a chain: its matrix after the elimination, and what leaves each row.
+/// The factors of a chain are its matrix after the elimination, and what leaves each row.
 #[derive(Drop)]
 pub struct Factors {
     shape: Shape,
@@ -23,7 +23,8 @@ pub struct Factors {
 impl Factors {
     ghost use Rattle.local_values.specs.Rows.{rows_of, LeavesNothing};
 
-    /// The factors of a chain whose edges stay in this band; others are left out. The only error is want of memory.
+    /// Finds the factors of a chain whose edges stay in this band. Other edges are left out. The only error is that
+    /// memory ran out.
     pub fn of_chain(alloc: Global, chain: &Chain, band: Band) -> Result<Factors, OutOfMemory>
         requires { band.back + band.forth + 1 < 2 ^ 32 }
         ensures { IfOk result (λ f. rows_of f ≡ nodes_in chain.now) }
@@ -32,7 +33,7 @@ impl Factors {
         Factors::past_stops(alloc, chain, band, &none)
     }
 
-    /// The factors of the chain that leaves at once from nodes where it stops.
+    /// Finds the factors of the chain that leaves at once from the nodes where it stops.
     pub(crate) fn past_stops(
         alloc: Global,
         chain: &Chain,
@@ -63,7 +64,7 @@ impl Factors {
         Ok(Factors { shape, cells, outs })
     }
 
-    /// Makes sums to values: each is the sum of its node, plus the values of its successors by their shares. Where the
+    /// Turns sums into values: each is the sum of its node, plus the values of its successors by their shares. If the
     /// elimination left nothing that leaves a row, its value is 0.
     pub fn solve(&self, sums: &mut [f64])
         requires { length sums.old ≡ rows_of self.now }
@@ -77,7 +78,7 @@ impl Factors {
         }
     }
 
-    /// The sum of a row, with those of the rows after it that were added to it.
+    /// Returns the sum of a row, with those of the rows after it that were added to it.
     fn sum(&self, sums: &[f64], row: usize) -> f64
         requires row { row < rows_of self.now }
         requires sums { length sums.now ≡ rows_of self.now }
@@ -88,7 +89,7 @@ impl Factors {
         sums[row] + product(factors, &sums[row + 1..row + 1 + most])
     }
 
-    /// The value of a row, by its sum and the values of the rows before it.
+    /// Returns the value of a row by its sum and the values of the rows before it.
     fn value(&self, values: &[f64], row: usize) -> f64
         requires row { row < rows_of self.now }
         requires values { length values.now ≡ rows_of self.now }

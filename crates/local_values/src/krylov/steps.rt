@@ -1,4 +1,4 @@
-//! The steps, one after another.
+//! This module takes the steps, one after another.
 
 ghost use Rattle.std.specs.Float.{◌≤ᶠ◌, float_zero};
 ghost use Rattle.std.specs.Prelude.{◌≡◌, IfOk, OnErr, length};
@@ -10,15 +10,15 @@ use float_games::Chain;
 use game_outside::OutOfMemory;
 use std::alloc::Global;
 
-/// How many steps pass between two looks at what is kept as the best so far.
+/// This many steps pass between two looks at what is kept as the best so far.
 const LOOK: u32 = 20;
 
-/// How much more than at first a pass may change before the steps count as astray.
+/// The steps count as astray if a pass changes this many times as much as at first.
 const ASTRAY: f64 = 1_000_000.0;
 
-/// Brings values nearer to those of a chain, by at most so many steps, until a pass changes none by more than is
-/// enough: each value is then about the sum of its node, plus the values of its successors by their shares. Gives what
-/// a pass still changes. The only error is want of memory.
+/// Brings values nearer to those of a chain, by at most `most` steps, until a pass changes none by more than `enough`.
+/// Each value is then about the sum of its node, plus the values of its successors by their shares. Returns what a pass
+/// still changes. The only error is that memory ran out.
 pub fn approach(
     alloc: Global,
     chain: &Chain,

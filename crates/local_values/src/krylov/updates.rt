@@ -1,19 +1,19 @@
-//! What a step does to the vectors.
+//! This module has what a step does to the vectors.
 
 ghost use Rattle.std.specs.Float.{◌≤ᶠ◌, float_zero};
 ghost use Rattle.std.specs.Prelude.{◌≡◌, length};
 
 use crate::vectors::greater;
 
-/// What a step leaves: the greatest size of an entry, and the product with the shadow.
+/// A step leaves a residual with this greatest size of an entry and this product with the shadow.
 #[derive(Clone, Copy)]
 pub struct Left {
     pub greatest: f64,
     pub product: f64,
 }
 
-/// The values found move along the direction by alpha and along the residual by omega, and the residual loses as much
-/// of what it turned into. Gives what is left of it.
+/// Moves the values found along the direction by alpha and along the residual by omega, and takes omega times `turned`
+/// from the residual. Returns what is left of it.
 pub(crate) fn advance(
     found: &mut [f64],
     residual: &mut [f64],
@@ -44,7 +44,7 @@ pub(crate) fn advance(
     left
 }
 
-/// The direction loses omega times what it moved, becomes beta times itself, and gains the residual.
+/// Takes omega times `moved` from the direction, multiplies it by beta, and adds the residual.
 pub(crate) fn redirect(
     direction: &mut [f64],
     moved: &[f64],

@@ -1,4 +1,4 @@
-//! The vectors of the steps.
+//! This module has the vectors of the steps.
 
 ghost use Rattle.std.specs.Float.{◌≤ᶠ◌, float_zero};
 ghost use Rattle.std.specs.Prelude.{◌≡◌, IfOk, length, vec_len};
@@ -10,9 +10,9 @@ use float_games::Chain;
 use game_outside::OutOfMemory;
 use std::alloc::Global;
 
-/// What the steps keep, in the words of the method: what a pass would still change (the residual), the shadow of the
-/// first one, the direction at hand, what a pass takes from the direction and from the residual, and what was found so
-/// far.
+/// The steps keep these vectors, in the words of the method: what a pass would still change (the residual), the first
+/// residual (the shadow), the current direction, what a pass takes from the direction and from the residual, and what
+/// was found so far.
 #[derive(Drop)]
 pub struct Work {
     nodes: usize,
@@ -34,7 +34,7 @@ pub struct Work {
 }
 
 impl Work {
-    /// The vectors before the first step, over sums and the values to begin with.
+    /// Returns the vectors before the first step, from sums and the initial values.
     pub(crate) fn begin(
         alloc: Global,
         chain: &Chain,
@@ -66,7 +66,7 @@ impl Work {
         })
     }
 
-    /// One step. False where it finds nothing more, or goes astray.
+    /// Takes one step. Returns false if it finds nothing more or goes astray.
     pub(crate) fn step(&mut self, chain: &Chain, most: f64) -> bool
         requires { self.old.nodes ≡ nodes_in chain.now }
         ensures { self.new.nodes ≡ self.old.nodes }
@@ -86,8 +86,8 @@ impl Work {
         true
     }
 
-    /// The residual loses alpha times what a pass takes from the direction. Gives omega: by how much what a pass takes
-    /// from it goes its way.
+    /// The residual loses alpha times what a pass takes from the direction. Returns omega: this multiple of what a pass
+    /// takes from the residual is nearest to it.
     fn turn(&mut self, chain: &Chain, alpha: f64) -> f64
         requires { self.old.nodes ≡ nodes_in chain.now }
         ensures { self.new.nodes ≡ self.old.nodes }
@@ -98,7 +98,7 @@ impl Work {
         if size > 0.0 { same / size } else { 0.0 }
     }
 
-    /// Moves the values found, and gives the product of what is left with the shadow: the next rho.
+    /// Moves the values found, and returns the next rho, which is the product of what is left with the shadow.
     fn move_found(&mut self, alpha: f64, omega: f64) -> f64
         ensures { self.new.nodes ≡ self.old.nodes }
     {

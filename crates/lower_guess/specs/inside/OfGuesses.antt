@@ -1,4 +1,4 @@
--- The definitions, at what the guesses of one excess are made from.
+-- These are the definitions for what the guesses of one excess are made from.
 use Rattle.std.specs.Prelude.{ℕ, List, slice_index}
 use Rattle.game_model.specs.Game.{Distribution, choices_of, choice_of}
 use Rattle.game_model.specs.Query.{side_at}
@@ -9,43 +9,43 @@ use Rattle.fixed_bellman.specs.Sums.{IsSumBetween}
 use Rattle.lower_guess.specs.LowerGuess.{first_raised, raised_table, IsRefused, AreRefused, IsFirstAt}
 use Rattle.lower_guess.specs.declared.guesses.Guesses.{Guesses}
 
--- the entry of a state before any step down
+-- This is the entry of a state before any step down.
 abbrev pub first_entry_of : Guesses → ℕ → ℕ
 first_entry_of g s = first_raised g.question.now g.zero.now (slice_index g.base.now) g.excess s
 
--- the entry of a state after so many steps down
+-- This is the entry of a state after this many steps down.
 abbrev pub entry_of : Guesses → ℕ → ℕ → ℕ
 entry_of g steps s = raised_table g.question.now g.zero.now (slice_index g.base.now) g.excess steps s
 
--- the down step of that table at the state
+-- This is the down step of that table at the state.
 abbrev pub step_of : Guesses → ℕ → ℕ → ℕ
 step_of g steps s = down_step g.question.now (entry_of g steps) s
 
--- a choice of a state
+-- A state has this choice.
 abbrev pub choice_at : Guesses → ℕ → ℕ → Distribution
 choice_at g s c = choice_of g.question.now.game s c
 
--- the down value of the best choice of a state over the entries
+-- This is the down value of the best choice of a state over the entries.
 abbrev pub best_of : Guesses → ℕ → ℕ → ℕ
 best_of g steps s =
     optimum (side_at g.question.now s) (down_value (entry_of g steps)) (choices_of g.question.now.game s)
 
--- the sum of weight times entry over the edges of a choice: it is between the table and itself
+-- The number is the sum of weight times entry over the edges of a choice.
 abbrev pub IsSumOf : Guesses → ℕ → Distribution → ℕ → Type 0
 IsSumOf g steps choice sum = IsSumBetween choice.edges (entry_of g steps) (entry_of g steps) sum
 
--- the table after so many steps down
+-- The list is the table after this many steps down.
 abbrev pub IsTableOf : Guesses → ℕ → List ℕ → Type 0
 IsTableOf g steps table = IsTable g.question.now (entry_of g steps) table
 
--- no choices and ranks make the table after so many steps down ranked
+-- No choices and ranks prove the table after this many steps down.
 abbrev pub IsRefusedOf : Guesses → ℕ → Type 0
 IsRefusedOf g steps = IsRefused g.question.now (entry_of g steps)
 
--- no table of the excess can be ranked
+-- No table of the excess can be ranked.
 abbrev pub AreRefusedOf : Guesses → Type 0
 AreRefusedOf g = AreRefused g.question.now g.zero.now (slice_index g.base.now) g.excess
 
--- the first of the tables that can be ranked
+-- This is the first of the tables that can be ranked.
 abbrev pub IsFirstOf : Guesses → List ℕ → Type 0
 IsFirstOf g table = IsFirstAt g.question.now g.zero.now (slice_index g.base.now) g.excess table

@@ -1,4 +1,4 @@
-//! Certificates that are refused: the faults of their texts, and of what they say.
+//! Certificates are refused for the faults of their texts, and of what they say.
 
 use game_outside::{MemShelf, OpenGate};
 use std::alloc::Global;
@@ -73,7 +73,7 @@ fn texts_of_certificates_are_refused_at_their_line(rt: HostRuntime) -> Result<()
     texts_are_refused(&rt, rt.alloc())
 }
 
-// The lines of the certificate of the first player's threshold in the game of two players.
+// These are the lines of the certificate of the first player's threshold in the game of two players.
 const LINES: [&str; 4] = [
     "0 0.650000000000000 1 1 0.650000000000000 -",
     "1 0.200000000000000 - 1 0.200000000000000 1",
@@ -81,7 +81,7 @@ const LINES: [&str; 4] = [
     "3 0.000000000000000 - 0 0.000000000000000 -",
 ];
 
-// That certificate, where each of these lines stands in place of the one of its state.
+// Makes that certificate, with each of these lines in place of the line of its state.
 fn with_changes(alloc: Global, changes: &[&str]) -> Result<String, Fail> {
     let mut text = String::from_str(alloc, "certificate 2 4\n")?;
     for line in LINES {
@@ -174,7 +174,7 @@ fn each_change_is_refused<R: Threads + Sync>(rt: &R, alloc: Global) -> Result<()
     Ok(())
 }
 
-// A goal whose lower value is not 1, where nothing else is false.
+// A goal has a lower value that is not 1, and nothing else is false.
 const LOWER_BELOW_1: &[&str] = &[
     "0 0.000000000000000 - 0 0.650000000000000 -",
     "1 0.000000000000000 - 0 0.200000000000000 1",
@@ -235,7 +235,7 @@ const UPPER_BELOW_1: &str = "2 1.000000000000000 - 0 0.999999999999999 -";
 
 const OVER_ONE: &str = "3 0.000000000000000 - 0 1.000000000000001 -";
 
-// Changes, and the first cause of them.
+// Each row has changes, and the cause that is named first.
 const FIRST_CAUSES: &[(&[&str], &str)] = &[
     (&[NO_CHOICE], "0 Choice state 0"),
     (&[NO_CHOICE, NO_REPLY], "0 Reply state 1"),
@@ -265,7 +265,7 @@ fn the_text_comes_first_and_then_upper_bounds_replies_and_lower_bounds(
     first_causes_are_told(&rt, rt.alloc())
 }
 
-// An audit where the file of the certificate is not held writes this and ends so.
+// An audit whose certificate is not held writes this text and ends with this status.
 fn writes_without<R: Threads + Sync>(
     rt: &R,
     alloc: Global,
@@ -322,7 +322,7 @@ const REFUSED_MODELS: &[(Row<'static>, &str)] = &[
     ),
 ];
 
-// The audit is refused so, with a certificate and without one.
+// The audit is refused in this way, with a certificate and without one.
 fn models_are_refused<R: Threads + Sync>(rt: &R, alloc: Global) -> Result<(), Fail> {
     for (row, text) in REFUSED_MODELS {
         let audit = Command::Audit(*row, "certificate 2 3\n");

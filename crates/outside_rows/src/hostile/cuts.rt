@@ -1,4 +1,4 @@
-//! The transition file of the coin loop, cut after each byte.
+//! The transition file of the coin loop is cut after each byte.
 
 use game_outside::OpenGate;
 use sample_games::expectations::same;
@@ -9,7 +9,7 @@ use std::thread::Threads;
 use stogame_app::Status;
 use worked_rows::{COIN_LOOP, COIN_LOOP_REPORT, MOST_OF_COIN_LOOP, Row, runs, writes};
 
-// The file cut after so many bytes is refused. The last line may be without its ending.
+// The file is refused if it is cut after this many bytes, except if only the ending of the last line is missing.
 fn cut_is_refused<R: Threads + Sync>(rt: &R, alloc: Global, length: usize) -> Result<(), Fail> {
     let bytes = COIN_LOOP.as_bytes().get(..length).unwrap_or(&[]);
     let Ok(tra) = from_utf8(bytes) else {

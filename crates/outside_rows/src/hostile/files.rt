@@ -1,4 +1,4 @@
-//! Files that no tool writes: each is refused with its line.
+//! No tool writes these files. Each is refused with its line.
 
 use crate::hostile::with_file;
 use game_outside::{OpenGate, SteadyShelf};
@@ -15,7 +15,7 @@ use worked_rows::{
     ONE_WORKER, Row, ends, file_of_bytes, push_times, writes,
 };
 
-/// More than any number of a file.
+/// No number of a file may be as large as this one.
 const FAR: &str = "9999999999999999999999999999999999999999";
 
 // The check of the coin loop with this transition file is refused for this cause.
@@ -28,7 +28,7 @@ fn refused<R: Threads + Sync>(rt: &R, alloc: Global, tra: &str, cause: &str) -> 
     refuses(rt, alloc, row, text.as_str())
 }
 
-// Counts of states, of choices and of lines, of which one is too many.
+// One of the counts of states, of choices and of lines is too large.
 const FAR_COUNTS: &[(&str, &str, &str)] = &[(FAR, "1", "1"), ("1", FAR, "1"), ("1", "1", FAR)];
 
 fn headers_are_refused<R: Threads + Sync>(rt: &R, alloc: Global) -> Result<(), Fail> {
@@ -96,7 +96,7 @@ fn compressed<R: Threads + Sync>(
     comes_to(name, ended, &written, Status::ModelRefused, text)
 }
 
-// The first bytes of a compressed file: one field, which is no header.
+// A compressed file begins with one field, which is no header.
 #[test]
 fn compressed_files_have_no_header(rt: HostRuntime) -> Result<(), Fail> {
     let alloc = rt.alloc();
@@ -136,7 +136,7 @@ fn owners_give<R: Threads + Sync>(
     writes(rt, alloc, row, text, status)
 }
 
-// A header of so many names, of which these are the first two.
+// Makes a header of this many names, of which these are the first two.
 fn many_names(alloc: Global, first_two: &str, count: u32) -> Result<String, Fail> {
     let mut text = String::from_str(alloc, first_two)?;
     for index in 2..count {
@@ -146,7 +146,7 @@ fn many_names(alloc: Global, first_two: &str, count: u32) -> Result<String, Fail
     Ok(text)
 }
 
-// A header of so many labels gives this.
+// A header of this many labels gives this text and status.
 fn label_count<R: Threads + Sync>(
     rt: &R,
     alloc: Global,
@@ -166,7 +166,7 @@ fn a_label_beyond_the_thousandth_is_refused(rt: HostRuntime) -> Result<(), Fail>
     label_count(&rt, rt.alloc(), 1001, refusal, Status::ModelRefused)
 }
 
-// A header of so many players gives this.
+// A header of this many players gives this text and status.
 fn player_count<R: Threads + Sync>(
     rt: &R,
     alloc: Global,
@@ -186,7 +186,7 @@ fn a_player_beyond_the_64th_is_refused(rt: HostRuntime) -> Result<(), Fail> {
     player_count(&rt, rt.alloc(), 65, refusal, Status::ModelRefused)
 }
 
-// A third item, whose name has so many bytes, and the line that names its state.
+// Makes a header with a third item, whose name has this many bytes.
 fn long_name(alloc: Global, first_two: &str, bytes: u32) -> Result<String, Fail> {
     let mut text = format!(in alloc; "{first_two} 2=\"")?;
     push_times(&mut text, "n", bytes)?;
@@ -194,7 +194,7 @@ fn long_name(alloc: Global, first_two: &str, bytes: u32) -> Result<String, Fail>
     Ok(text)
 }
 
-// A label of so many bytes gives this.
+// A label of this many bytes gives this text and status.
 fn label_length<R: Threads + Sync>(
     rt: &R,
     alloc: Global,
@@ -214,7 +214,7 @@ fn a_label_of_256_bytes_is_refused(rt: HostRuntime) -> Result<(), Fail> {
     label_length(&rt, rt.alloc(), 256, refusal, Status::ModelRefused)
 }
 
-// A player whose name has so many bytes gives this.
+// A player whose name has this many bytes gives this text and status.
 fn player_length<R: Threads + Sync>(
     rt: &R,
     alloc: Global,
@@ -234,7 +234,7 @@ fn a_player_of_256_bytes_is_refused(rt: HostRuntime) -> Result<(), Fail> {
     player_length(&rt, rt.alloc(), 256, refusal, Status::ModelRefused)
 }
 
-// An index of a header, a state and its index, of which one has 40 digits.
+// One of an index in a header, a state and the index of that state has 40 digits.
 const OF_40_DIGITS: [(&str, &str, &str, &str); 3] = [
     (FAR, "0", "0", "1 OverLimit"),
     ("1", FAR, "0", "2 StateOutOfRange"),
@@ -269,7 +269,7 @@ fn owners_of_40_digits_are_refused(rt: HostRuntime) -> Result<(), Fail> {
     far_owners_are_refused(&rt, rt.alloc())
 }
 
-// A state, a choice and a destination, of which one has 40 digits.
+// One of a state, a choice and a destination has 40 digits.
 const FAR_LINES: &[(&str, &str, &str, &str)] = &[
     (FAR, "0", "1", "2 StateOutOfRange"),
     ("0", FAR, "1", "2 OverLimit"),
@@ -289,7 +289,7 @@ fn transitions_of_40_digits_are_refused(rt: HostRuntime) -> Result<(), Fail> {
     far_transitions_are_refused(&rt, rt.alloc())
 }
 
-// A number with zeros in front, of forty digits.
+// This number has 40 digits, of which all but the last are zeros.
 const ONE: &str = "0000000000000000000000000000000000000001";
 
 fn zeros_change_nothing<R: Threads + Sync>(rt: &R, alloc: Global) -> Result<(), Fail> {
@@ -308,7 +308,7 @@ const KEPT: &str = "0 0.500000000000000 1 1 0.500000000000000 -";
 
 const GOAL: &str = "1 1.000000000000000 - 0 1.000000000000000 -";
 
-// The head of a certificate, its first two lines, and why it is refused.
+// Each row has the head of a certificate, its first two lines, and why it is refused.
 const CHANGED: &[(&str, &str, &str, &str)] = &[
     ("9 3", KEPT, GOAL, "3 Version"),
     (
@@ -346,7 +346,7 @@ const KEPT_REPLY: &str = "1 0.200000000000000 - 1 0.200000000000000 1";
 
 const GOAL_OF_TWO: &str = "2 1.000000000000000 - 0 1.000000000000000 -";
 
-// The lines of states 1 and 2, and why the certificate is refused.
+// Each row has the lines of states 1 and 2, and why the certificate is refused.
 const CHANGED_OF_TWO: &[(&str, &str, &str)] = &[
     (
         "1 0.200000000000000 - 1 0.100000000000000 1",

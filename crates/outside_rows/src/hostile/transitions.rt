@@ -1,4 +1,4 @@
-//! Transition files that are refused.
+//! These transition files are refused.
 
 use std::alloc::Global;
 use std::test::Fail;
@@ -161,7 +161,7 @@ const NUMBERS: &[(&str, &str)] = &[
     ("1111111111111111111111111111111", "TooManyDigits"),
 ];
 
-// The coin loop with each of these numbers in its second line is refused for the cause beside it.
+// The coin loop with each of these numbers in its second line is refused for the cause that is given with the number.
 fn numbers_are_refused<R: Threads + Sync>(rt: &R, alloc: Global) -> Result<(), Fail> {
     for (number, cause) in NUMBERS {
         let tra = format!(in alloc;

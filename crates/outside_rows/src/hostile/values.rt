@@ -1,4 +1,4 @@
-//! Files of values that no solver writes: each is refused with its line, or changes no answer.
+//! No solver writes these files of values. Each is refused with its line, or changes no answer.
 
 use std::alloc::Global;
 use std::test::Fail;
@@ -7,7 +7,7 @@ use stogame_app::Status;
 use worked_rows::tables::prints;
 use worked_rows::{Command, MOST_OF_COIN_LOOP, Row};
 
-// The coin loop solved from these values writes this text.
+// The coin loop that is solved from these values writes this text.
 fn from_values<R: Threads + Sync>(
     rt: &R,
     alloc: Global,

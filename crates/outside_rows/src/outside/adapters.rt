@@ -1,4 +1,4 @@
-//! The real files and the real writer, each once.
+//! The real files and the real writer are each tested once.
 
 use game_outside::{ReadEnd, read_all, write_all};
 use std::fs;

@@ -9,7 +9,7 @@ use std::thread::Threads;
 use stogame_app::Status;
 use worked_rows::{MOST_OF_AGREEMENT, Row, ends, runs, words};
 
-// Counts how often the last worker passes it, and how often workers behind that one do.
+// The gate counts how often the last worker passes it, and how often later workers do.
 #[derive(Drop)]
 struct LastGate {
     last: u32,
@@ -26,7 +26,7 @@ impl LastGate {
         }
     }
 
-    // How often the last of the workers passed it, and how often those behind did.
+    // Returns how often the last of the workers passed the gate, and how often later ones did.
     fn counts(&self) -> (u32, u32) {
         (
             self.passed.load(Ordering::SeqCst),
@@ -34,7 +34,7 @@ impl LastGate {
         )
     }
 
-    // Whether the last of the workers passed it, and none behind.
+    // Returns whether the last of the workers passed the gate, and no later one did.
     fn has_all(&self) -> bool {
         let (passed, behind) = self.counts();
         passed > 0 && behind == 0
@@ -52,7 +52,7 @@ impl Gate for LastGate {
     }
 }
 
-// So many workers of a check pass the gate.
+// This many workers of a check pass the gate.
 fn check_has_all<R: Threads + Sync>(
     rt: &R,
     alloc: Global,
@@ -74,13 +74,14 @@ fn checks_have_all<R: Threads + Sync>(rt: &R, alloc: Global) -> Result<(), Fail>
     Ok(())
 }
 
-// The first round has every state, and by its edges each of so many workers has one of the twelve.
+// The first round has every state. The twelve states are shared by their edges, and each of this many workers has at
+// least one.
 #[test]
 fn all_workers_of_a_check_pass_the_gate(rt: HostRuntime) -> Result<(), Fail> {
     checks_have_all(&rt, rt.alloc())
 }
 
-// So many workers of a drawn game pass the gate.
+// This many workers of a drawn game pass the gate.
 fn game_has_all<R: Threads + Sync>(
     rt: &R,
     alloc: Global,
@@ -108,7 +109,7 @@ fn all_workers_of_a_drawn_game_pass_the_gate(rt: HostRuntime) -> Result<(), Fail
     games_have_all(&rt, rt.alloc())
 }
 
-/// Fifteen states in a row, of which the last is the goal.
+/// Fifteen states follow each other, and the last one is the goal.
 const CHAIN: Row<'static> = Row {
     tra: "15 15 15\n0 0 1 1\n1 0 2 1\n2 0 3 1\n3 0 4 1\n4 0 5 1\n5 0 6 1\n6 0 7 1\n7 0 8 1\n8 0 9 1\n9 0 10 1\n10 0 11 1\n11 0 12 1\n12 0 13 1\n13 0 14 1\n14 0 14 1\n",
     lab: "0=\"init\" 1=\"goal\"\n0: 0\n14: 1\n",
@@ -117,7 +118,7 @@ const CHAIN: Row<'static> = Row {
     numbers: &[],
 };
 
-// The chain with a formula and these numbers.
+// Asks the chain a formula with these numbers.
 fn chain<'a>(formula: &'a str, numbers: &'a [&'a str]) -> Row<'a> {
     Row {
         formula,
@@ -126,12 +127,13 @@ fn chain<'a>(formula: &'a str, numbers: &'a [&'a str]) -> Row<'a> {
     }
 }
 
-/// How many workers share the chain, and how many of its states the last of them has.
+/// Each row has a number of workers who share the chain, as a word and as a number, and how many states the last worker
+/// has.
 const TEAMS: [(&str, u32, u32); 4] = [("1", 1, 15), ("3", 3, 5), ("5", 5, 3), ("8", 8, 1)];
 
-/// Formulas, and how many times their runs update all states where each has at most one round: a round updates two
-/// tables. With `F<=0` no step is made, so what is counted is the other run. The last three leave states undecided
-/// inside, so the outermost formula poses two questions.
+/// Each formula is given with the number of times that its runs update all states if each has at most one round. A
+/// round updates two tables. No step is made with `F<=0`, so only the other run is counted. The last three leave states
+/// undecided inside, so the outermost formula poses two questions.
 const RUNS: [(&str, u32); 13] = [
     ("Pmax=? [ F \"goal\" ]", 2),
     ("Pmax=? [ F<=1 \"goal\" ]", 1),
@@ -148,8 +150,8 @@ const RUNS: [(&str, u32); 13] = [
     ("Pmax=? [ X P>=1 [ F \"goal\" ] ]", 2 + 2),
 ];
 
-// The last of so many workers passes the gate before each of its states as often as all states are updated, and none
-// behind.
+// The last of this many workers passes the gate before each of its states as often as all states are updated, and no
+// later worker passes it.
 fn all_pass<R: Threads + Sync>(
     rt: &R,
     alloc: Global,

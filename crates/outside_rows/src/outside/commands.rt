@@ -1,4 +1,4 @@
-//! Commands of each kind, over which each call of the outside fails in turn.
+//! These are commands of each kind. Each call of the outside fails in turn while they run.
 
 ghost use Rattle.std.specs.Prelude.{◌<◌, IfOk};
 
@@ -16,13 +16,14 @@ use worked_rows::{
     PLAN_OF_LOOP_OR_COIN, PLAN_OF_TWO_PLAYERS, Row, STATE_OUT_OF_RANGE,
 };
 
-/// The cases of `COMMANDS`. To name so large a constant costs a proof as much as 140 s, so this function alone does.
+/// Returns the cases of `COMMANDS`. Only this function names so large a constant, because each proof that names it
+/// takes up to 140 s.
 pub(crate) fn commands() -> &'static [(Case<'static>, &'static str)] {
     COMMANDS
 }
 
-/// Cases with the names of the texts that each begins where no call fails, a space behind each name. Of each kind of
-/// command there is one at least: `each_kind_of_command_has_a_case` fails where one is missing.
+/// Each case has the names of the texts that it begins if no call fails, with a space after each name. Each kind of
+/// command has at least one case: `each_kind_of_command_has_a_case` fails if one is missing.
 const COMMANDS: &[(Case<'static>, &str)] = &[
     (CHECK_OF_COIN_LOOP, "m.tra m.lab "),
     (COIN_LOOP_OUT_OF_ORDER, "m.tra m.tra m.lab "),
@@ -93,7 +94,7 @@ const TRAPS_OF_LOOP_OR_COIN: Case<'static> = Case {
     status: Status::Fine,
 };
 
-// The coin loop, asked for the most by words that `solve` takes.
+// The coin loop is asked for the greatest probability by words that `solve` takes.
 const UNSOLVED: Row<'static> = Row {
     numbers: &[],
     ..MOST_OF_COIN_LOOP
@@ -143,10 +144,10 @@ const SURE_OF_AGREEMENT: Case<'static> = Case {
     status: Status::SomeFalse,
 };
 
-/// How many kinds of commands there are.
+/// This is the number of kinds of commands.
 const KINDS: usize = 14;
 
-// The kind of a command. One that is added later does not compile until it is given a number here.
+// Numbers the kind of a command. A command that is added later does not compile until it is given a number here.
 fn kind_of(alloc: Global, command: &CommandWords<'_>) -> Result<usize, Fail>
     ensures { IfOk result (λ kind. kind < 13) }
 {
@@ -159,7 +160,7 @@ fn kind_of(alloc: Global, command: &CommandWords<'_>) -> Result<usize, Fail>
     }
 }
 
-// The kind of a `solve`, by its options.
+// Numbers the kind of a `solve` by its options.
 fn kind_of_solve(solve: &SolveWords<'_>) -> usize
     ensures { result < 11 }
 {
@@ -177,7 +178,8 @@ fn kind_of_solve(solve: &SolveWords<'_>) -> usize
     }
 }
 
-// The kind of a check, by its options and else by its formula; neither does an option that is added later.
+// Numbers the kind of a check by its options, or else by its formula. An option that is added later does not compile
+// until it is named here.
 fn kind_of_check(alloc: Global, check: &CheckWords<'_>) -> Result<usize, Fail>
     ensures { IfOk result (λ kind. kind < 7) }
 {
@@ -200,7 +202,7 @@ fn kind_of_check(alloc: Global, check: &CheckWords<'_>) -> Result<usize, Fail>
     }
 }
 
-// The kind of a formula, nor one with another kind of paths.
+// Numbers the kind of a formula. A kind of paths that is added later does not compile until it is given a number here.
 fn kind_of_formula(formula: &Formula) -> usize
     ensures { result < 5 }
 {
@@ -215,7 +217,7 @@ fn kind_of_formula(formula: &Formula) -> usize
     }
 }
 
-// The kind of what a case asks; words that denote no command are the last.
+// Numbers the kind of what a case asks. Words that denote no command have the last number.
 fn kind_of_case(alloc: Global, case: &Case<'_>) -> Result<usize, Fail>
     ensures { IfOk result (λ kind. kind < 14) }
 {

@@ -11,10 +11,10 @@ use worked_rows::{
     ends_over,
 };
 
-/// More calls than a command makes.
+/// No command makes this many calls.
 const MOST_CALLS: u64 = 1000;
 
-// A run without a fault is that of the case.
+// A run without a fault gives what the case says.
 fn is_whole(case: &Case<'_>, ended: &Ended) -> Result<(), Fail> {
     same(
         case.text,
@@ -23,7 +23,7 @@ fn is_whole(case: &Case<'_>, ended: &Ended) -> Result<(), Fail> {
     )
 }
 
-// How a case ends where one call of the shelf fails.
+// Says how a case ends if one call of the shelf fails.
 fn with_read_fault<R: Threads + Sync>(
     rt: &R,
     alloc: Global,
@@ -38,7 +38,7 @@ fn with_read_fault<R: Threads + Sync>(
     ends_over(rt, alloc, case.command, outside)
 }
 
-// A run where a call of the shelf fails writes nothing. It gives how many calls a run without a fault makes.
+// A run writes nothing if a call of the shelf fails. The result is the number of calls of a run without a fault.
 fn each_reading_fails<R: Threads + Sync>(
     rt: &R,
     alloc: Global,
@@ -56,7 +56,7 @@ fn each_reading_fails<R: Threads + Sync>(
     Err(Fail::new("each run has a fault"))
 }
 
-// How a case ends where one call of the sink fails.
+// Says how a case ends if one call of the sink fails.
 fn with_write_fault<R: Threads + Sync>(
     rt: &R,
     alloc: Global,
@@ -71,14 +71,14 @@ fn with_write_fault<R: Threads + Sync>(
     ends_over(rt, alloc, case.command, outside)
 }
 
-// So many bytes of the text of a case were written before a write failed.
+// This many bytes of the text of a case were written before a write failed.
 fn is_front(case: &Case<'_>, ended: &Ended, taken: usize) -> Result<(), Fail> {
     let starts = case.text.as_bytes().starts_with(&ended.written);
     let found = (ended.status, ended.written.len(), starts);
     same(case.text, found, (Status::WriteFault, taken, true))
 }
 
-// A run where a call of the sink fails leaves what the earlier calls took, whatever its status would have been.
+// If a call of the sink fails, the run leaves what the earlier calls took, whatever its status would have been.
 fn each_writing_fails<R: Threads + Sync>(
     rt: &R,
     alloc: Global,
@@ -103,7 +103,7 @@ fn a_shelf_that_fails_leaves_nothing_written(rt: HostRuntime) -> Result<(), Fail
 }
 
 // In pieces of 8 bytes the transition file, of 54 bytes, takes 9 calls with its beginning and its end, and the label
-// file 6.
+// file takes 6.
 #[test]
 fn a_file_out_of_order_fails_in_each_call_of_both_readings(rt: HostRuntime) -> Result<(), Fail> {
     for (case, calls) in [

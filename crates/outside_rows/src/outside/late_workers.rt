@@ -9,7 +9,7 @@ use std::thread::Threads;
 use stogame_app::Status;
 use worked_rows::{MOST_OF_AGREEMENT, Row, runs};
 
-// Of two workers the first has the states 0 to 3 of the agreement protocol, and the second the eight others.
+// Of two workers, the first has the states 0 to 3 of the agreement protocol, and the second has the eight others.
 const OTHERS: u32 = 8;
 
 fn late_agrees<R: Threads + Sync>(rt: &R, alloc: Global) -> Result<(), Fail> {
@@ -23,7 +23,7 @@ fn a_late_worker_makes_no_difference_to_the_bounds(rt: HostRuntime) -> Result<()
     late_agrees(&rt, rt.alloc())
 }
 
-// Some line begins so.
+// Some line begins with this text.
 fn has_line(written: &[u8], front: &str) -> Result<(), Fail> {
     let mut lines = written.split(|byte| *byte == b'\n');
     let found = lines.any(|line| line.starts_with(front.as_bytes()));
@@ -44,7 +44,8 @@ fn late_raises<R: Threads + Sync>(rt: &R, alloc: Global) -> Result<(), Fail> {
     has_line(&written, "3 0.500000000000002 ")
 }
 
-// Over copies of the words, and in one rising sweep of all states, both values would be 0.
+// If the workers read copies of the words, or if one rising sweep updated all states, the round would leave both values
+// at 0.
 #[test]
 fn one_round_raises_what_another_worker_has_raised(rt: HostRuntime) -> Result<(), Fail> {
     late_raises(&rt, rt.alloc())

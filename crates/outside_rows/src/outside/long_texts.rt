@@ -1,4 +1,4 @@
-//! Texts that are longer than the buffer of their reader, and texts as long as a limit.
+//! These texts are longer than the buffer of their reader, or as long as a limit.
 
 ghost use Rattle.std.specs.Prelude.{◌<◌};
 
@@ -16,7 +16,7 @@ use worked_rows::{
     MOST_OF_COIN_LOOP, ONE_WORKER, Row, SECOND_OWNS_1, file, push_times,
 };
 
-/// A line, and how often it stands.
+/// Each line is given with the number of times that it is written.
 type Lines = &'static [(&'static str, u32)];
 
 /// The goal has 210 of 700 parts.
@@ -27,7 +27,7 @@ const TRANSITIONS: Lines = &[
     ("2 0 2 1\r\n", 1),
 ];
 
-/// The same, where the first line stands too early.
+/// The same lines are given, but the first one comes too early.
 const OUT_OF_ORDER: Lines = &[
     ("1 0 1 1\r\n", 1),
     ("0 0 1 1/700\r\n", 210),
@@ -53,7 +53,7 @@ const OWNERS: Lines = &[("1: 1\r\n", 1500)];
 /// The last line names another owner.
 const TWO_OWNERS: Lines = &[("1: 1\r\n", 1500), ("1: 0\r\n", 1)];
 
-// A header with so many blanks behind it, and lines. All end in CR and LF.
+// Makes a header with this many blanks after it, and lines. All end in CR and LF.
 fn long_text(alloc: Global, header: &str, blanks: u32, lines: Lines) -> Result<String, Fail> {
     let mut text = String::from_str(alloc, header)?;
     push_times(&mut text, " ", blanks)?;
@@ -64,7 +64,7 @@ fn long_text(alloc: Global, header: &str, blanks: u32, lines: Lines) -> Result<S
     if_long(text)
 }
 
-// The text, where it is longer than two buffers.
+// Returns the text if it is longer than two buffers.
 fn if_long(text: String) -> Result<String, Fail> {
     if text.len() > 2 * 4096 {
         Ok(text)
@@ -97,7 +97,8 @@ fn transitions_give<R: Threads + Sync>(
     text: &str,
     status: Status,
 ) -> Result<(), Fail> {
-    // As many blanks as a line has bytes, so that each byte of a line comes first behind the buffer's end.
+    // There are as many blanks as a line has bytes, so each byte of a line comes first after the end of the buffer
+    // once.
     for blanks in 0..13 {
         let tra = long_text(alloc, "3 3 702", blanks, lines)?;
         let row = Row {
@@ -146,7 +147,7 @@ fn owners_give<R: Threads + Sync>(
     Ok(())
 }
 
-/// What the transitions report.
+/// The transitions give this report.
 const REPORT: &str = "state 0 lower 0.300000000000000 upper 0.300000000000000 rounds 2 Bracket\n";
 
 #[test]
@@ -181,7 +182,7 @@ fn long_owner_files_may_be_cut_anywhere(rt: HostRuntime) -> Result<(), Fail> {
     owners_give(&rt, alloc, TWO_OWNERS, refusal, Status::ModelRefused)
 }
 
-// A shelf with the files of a model.
+// Makes a shelf with the files of a model.
 fn shelf_in_pieces(alloc: Global, piece: u32) -> Result<MemShelf, Fail>
     requires { 0 < piece }
 {
@@ -192,7 +193,7 @@ fn shelf_in_pieces(alloc: Global, piece: u32) -> Result<MemShelf, Fail>
     Ok(MemShelf::new(held, piece, Vec::new(alloc)))
 }
 
-// With a limit of so many bytes it is read, and with one byte less it is too long.
+// The file is read with a limit of this many bytes, and is too long with one byte less.
 fn transitions_of_54_bytes(alloc: Global, piece: u32) -> Result<(), Fail>
     requires { 0 < piece }
 {
@@ -206,7 +207,7 @@ fn transitions_of_54_bytes(alloc: Global, piece: u32) -> Result<(), Fail>
     )
 }
 
-// With a limit of so many bytes it is read, and with one byte less it is too long.
+// The file is read with a limit of this many bytes, and is too long with one byte less.
 fn labels_of_28_bytes(alloc: Global, piece: u32) -> Result<(), Fail>
     requires { 0 < piece }
 {
@@ -220,7 +221,7 @@ fn labels_of_28_bytes(alloc: Global, piece: u32) -> Result<(), Fail>
     )
 }
 
-// With a limit of so many bytes it is read, and with one byte less it is too long.
+// The file is read with a limit of this many bytes, and is too long with one byte less.
 fn owners_of_19_bytes(alloc: Global, piece: u32) -> Result<(), Fail>
     requires { 0 < piece }
 {

@@ -1,4 +1,4 @@
-//! The names that a run begins, in their order: those of the texts that the words name, and no other.
+//! A run begins the names of the texts that the words name, in their order, and no other name.
 
 ghost use Rattle.std.specs.Prelude.{None, false};
 
@@ -10,7 +10,7 @@ use std::test::Fail;
 use std::thread::Threads;
 use worked_rows::{Case, ends};
 
-// A shelf that notes each name that it begins, with a space behind it.
+// The shelf notes each name that it begins, with a space after it.
 #[derive(Drop)]
 struct NotingShelf {
     shelf: SteadyShelf,

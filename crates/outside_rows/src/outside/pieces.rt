@@ -1,4 +1,4 @@
-//! Files in pieces of any size.
+//! Files come in pieces of any size.
 
 use std::alloc::Global;
 use std::test::Fail;
@@ -9,7 +9,7 @@ use worked_rows::{
     Outside, PLAN_OF_TWO_PLAYERS, Row, STATE_OUT_OF_RANGE, gives,
 };
 
-/// A chain in lines that end in CR and LF, with blank lines behind it.
+/// The lines of a chain end in CR and LF, and blank lines follow them.
 const CHAIN_IN_CRLF: Case<'static> = Case {
     command: Command::Check(Row {
         tra: "3 4\r\n0 1 0.3\r\n0 2 0.7\r\n1 1 1\r\n2 2 1\r\n\r\n\r\n",
@@ -19,7 +19,7 @@ const CHAIN_IN_CRLF: Case<'static> = Case {
     status: Status::Fine,
 };
 
-/// A mark of an index that the header does not name.
+/// A line has an index that the header does not name.
 const UNKNOWN_INDEX: Case<'static> = Case {
     command: Command::Check(Row {
         lab: "0=\"init\" 1=\"goal\"\n0: 0\n1: 7\n",
@@ -68,10 +68,10 @@ fn pieces_of_any_size_make_no_difference(rt: HostRuntime) -> Result<(), Fail> {
     all_give_in_pieces(&rt, rt.alloc())
 }
 
-// The size of a piece, and a call that fails.
+// Each row has the size of a piece, and a call that fails.
 const FAILING: [(u32, u64); 4] = [(1, 59), (7, 13), (8, 12), (4096, 6)];
 
-// The transition file has 54 bytes, and a call more tells its end. The second piece of the label file fails, or its
+// The transition file has 54 bytes, and one more call tells its end. The second piece of the label file fails, or its
 // end.
 fn failing_labels_write_nothing<R: Threads + Sync>(rt: &R, alloc: Global) -> Result<(), Fail> {
     for (piece, call) in FAILING {

@@ -1,4 +1,5 @@
-//! Texts of which some bytes are changed at random: in pieces of any size they are answered as they are in large ones.
+//! Some bytes of these texts are changed at random. In pieces of any size the texts are answered as they are in large
+//! ones.
 
 ghost use Rattle.std.specs.Prelude.{◌<◌, length};
 
@@ -13,7 +14,7 @@ use worked_rows::{Command, Ended, FIRST_OF_TWO_PLAYERS, Outside, Row, ends_over}
 
 const DAMAGE: &[u8] = b"0123456789 \t\r\n.:\"=/eap\0";
 
-// One of a list.
+// Draws one of a list.
 fn one_of<T: Copy>(draws: &mut Draw, list: &[T]) -> T
     requires { 0 < length list.now }
 {
@@ -38,7 +39,7 @@ fn change_byte(draws: &mut Draw, text: &mut Vec<u8>) -> Result<(), Fail> {
     Ok(())
 }
 
-// A text with up to two bytes changed.
+// Changes up to two bytes of a text.
 fn changed(alloc: Global, draws: &mut Draw, text: &str) -> Result<Vec<u8>, Fail> {
     let mut bytes = text.as_bytes().to_vec(alloc)?;
     for _ in 0..draws.below(3) {
@@ -47,7 +48,7 @@ fn changed(alloc: Global, draws: &mut Draw, text: &str) -> Result<Vec<u8>, Fail>
     Ok(bytes)
 }
 
-// The text of this file of the row.
+// Returns the text of this file of the row.
 fn text_of(row: Row<'static>, file: usize) -> &'static str {
     match file {
         0 => row.tra,
@@ -56,7 +57,7 @@ fn text_of(row: Row<'static>, file: usize) -> &'static str {
     }
 }
 
-// The row with another text of this file.
+// Returns the row with another text of this file.
 fn with_text<'a>(row: Row<'a>, file: usize, text: &'a str) -> Row<'a> {
     match file {
         0 => Row { tra: text, ..row },
@@ -68,7 +69,7 @@ fn with_text<'a>(row: Row<'a>, file: usize, text: &'a str) -> Row<'a> {
     }
 }
 
-// How the check of a row ends over pieces of so many bytes.
+// Says how the check of a row ends over pieces of this many bytes.
 fn ends_in_pieces<R: Threads + Sync>(
     rt: &R,
     alloc: Global,
@@ -85,7 +86,8 @@ fn ends_in_pieces<R: Threads + Sync>(
     ends_over(rt, alloc, Command::Check(row), outside)
 }
 
-// The check of a row ends the same over pieces of so many bytes and over large ones. Whether its files are accepted.
+// The check of a row ends the same over pieces of this many bytes and over large ones. The result says whether its
+// files are accepted.
 fn is_answered<R: Threads + Sync>(
     rt: &R,
     alloc: Global,
@@ -104,7 +106,7 @@ fn is_answered<R: Threads + Sync>(
     Ok(large.status != Status::ModelRefused)
 }
 
-// The same of the game of two players, with a changed text of one of its files.
+// The game of two players, with a changed text of one of its files, is answered the same.
 fn one_is_answered<R: Threads + Sync>(
     rt: &R,
     alloc: Global,
@@ -119,7 +121,7 @@ fn one_is_answered<R: Threads + Sync>(
     is_answered(rt, alloc, row, draws.between(1, 40))
 }
 
-// How many of so many changed texts of this file are accepted.
+// Counts how many of this many changed texts of this file are accepted.
 fn are_answered<R: Threads + Sync>(
     rt: &R,
     alloc: Global,

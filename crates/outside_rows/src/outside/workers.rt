@@ -1,4 +1,4 @@
-//! Rounds and workers.
+//! These tests are of rounds and workers.
 
 use game_outside::{Gate, HoldGate, OpenGate};
 use sample_games::expectations::{holds, same};
@@ -9,7 +9,7 @@ use std::thread::Threads;
 use stogame_app::Status;
 use worked_rows::{COIN_LOOP_REPORT, MOST_OF_AGREEMENT, MOST_OF_COIN_LOOP, Row, runs, writes};
 
-/// What stands before the number of rounds in the agreement's line.
+/// The line of the agreement protocol begins with this text, before the number of rounds.
 const AGREED: &str = "state 0 lower 0.839999999999999 upper 0.840000000000000 rounds ";
 
 fn agreement<'a>(numbers: &'a [&'a str]) -> Row<'a> {
@@ -19,7 +19,7 @@ fn agreement<'a>(numbers: &'a [&'a str]) -> Row<'a> {
     }
 }
 
-/// The agreement's bounds are those of one worker, whatever the number of rounds; there is one line.
+/// The bounds of the agreement protocol are those of one worker, whatever the number of rounds, and there is one line.
 pub(crate) fn agrees<R: Threads + Sync, G: Gate + Sync>(
     rt: &R,
     alloc: Global,
@@ -57,8 +57,8 @@ fn two_workers_run_at_once(rt: HostRuntime) -> Result<(), Fail> {
     two_at_once(&rt, rt.alloc())
 }
 
-// Counts who passes it before each of three states, and who passes it before a state of another: three workers share
-// them.
+// Three workers share three states. The gate counts who passes it before each state, and who passes it before a state
+// of another worker.
 #[derive(Drop)]
 struct CountGate {
     passed: [AtomicU32; 3],
@@ -73,7 +73,7 @@ impl CountGate {
         }
     }
 
-    // How often it was passed before each state.
+    // Returns how often the gate was passed before each state.
     fn counts(&self) -> [u32; 3] {
         let [first, second, third] = &self.passed;
         [
@@ -83,7 +83,7 @@ impl CountGate {
         ]
     }
 
-    // How often a worker passed it before a state of another.
+    // Returns how often a worker passed the gate before a state of another worker.
     fn strays(&self) -> u32 {
         self.strayed.load(Ordering::SeqCst)
     }
@@ -100,7 +100,7 @@ impl Gate for CountGate {
     }
 }
 
-// The coin loop with at most these rounds, and with three workers.
+// Asks the coin loop with these numbers.
 fn coin_loop<'a>(numbers: &'a [&'a str]) -> Row<'a> {
     Row {
         numbers,
@@ -108,7 +108,7 @@ fn coin_loop<'a>(numbers: &'a [&'a str]) -> Row<'a> {
     }
 }
 
-// The coin loop with another formula and these numbers.
+// Asks the coin loop another formula with these numbers.
 fn coin_loop_with<'a>(formula: &'a str, numbers: &'a [&'a str]) -> Row<'a> {
     Row {
         formula,
@@ -116,7 +116,8 @@ fn coin_loop_with<'a>(formula: &'a str, numbers: &'a [&'a str]) -> Row<'a> {
     }
 }
 
-// How often the gate is passed before each state of the coin loop, and how often by the worker of another.
+// Counts how often the gate is passed before each state of the coin loop, and how often before a state of another
+// worker.
 fn passes<R: Threads + Sync>(
     rt: &R,
     alloc: Global,
@@ -130,7 +131,8 @@ fn passes<R: Threads + Sync>(
     Ok((gate.counts(), gate.strays()))
 }
 
-/// Formulas, the most rounds, and how often the gate is passed before each state. A round updates two tables.
+/// Each row has a formula, the most rounds, and how often the gate is passed before each state. A round updates two
+/// tables.
 const PASSES: &[(&str, &str, u32)] = &[
     ("Pmax=? [ F \"goal\" ]", "0", 0),
     ("Pmax=? [ F \"goal\" ]", "1", 2),
@@ -172,14 +174,14 @@ fn none_strays<R: Threads + Sync>(rt: &R, alloc: Global) -> Result<(), Fail> {
     Ok(())
 }
 
-// Only the first round of a small model, and the first step, has all workers.
+// Only the first round of a small model, and the first step, have all workers.
 #[test]
 fn each_worker_passes_the_gate_before_its_own_state(rt: HostRuntime) -> Result<(), Fail> {
     none_strays(&rt, rt.alloc())
 }
 
-/// Formulas that stand inside, and after how many rounds of at most eight they are settled at each state, where a run
-/// asks for it after 1, 2, 4 and 8.
+/// Each formula is inside, and its run, of at most eight rounds, ends after this number of rounds. A run asks after 1,
+/// 2, 4 and 8 rounds whether its threshold is settled at each state.
 const SETTLED: [(&str, u32); 5] = [
     ("P>=0.25 [ F \"goal\" ]", 1),
     ("P>=0.3 [ F \"goal\" ]", 2),
@@ -188,8 +190,8 @@ const SETTLED: [(&str, u32); 5] = [
     ("P>=0.6 [ F \"goal\" ]", 1),
 ];
 
-// The rounds of a run inside, whose formula stands within one of no steps. The initial state is the goal, where each of
-// these formulas is settled at once.
+// Counts the passes of a run inside, whose formula is within one of no steps. The initial state is the goal, where each
+// of these formulas is settled at once.
 fn inner_passes<R: Threads + Sync>(rt: &R, alloc: Global, inside: &str) -> Result<[u32; 3], Fail> {
     let formula = format!(in alloc; "Pmax=? [ F<=0 {inside} ]")?;
     let row = Row {
@@ -217,7 +219,7 @@ fn runs_inside_end_where_their_threshold_is_settled_at_all_states(
     all_end_where_settled(&rt, rt.alloc())
 }
 
-// The most rounds, and what is reported.
+// Each row has the most rounds, and what is reported.
 const ROUNDS: [(&str, &str); 4] = [
     (
         "0",

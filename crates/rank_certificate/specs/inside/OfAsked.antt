@@ -1,4 +1,4 @@
--- The definitions, at what a search for ranks is about.
+-- These are the definitions for what a search for ranks is about.
 use Rattle.std.specs.Prelude.{ℕ, List, slice_index, Option, option_copied}
 use Rattle.game_model.specs.Query.{states}
 use Rattle.predecessors.specs.declared.lists.Move.{Move}
@@ -8,54 +8,54 @@ use Rattle.rank_certificate.specs.inside.Growth.{IsGrowth, IsApart, Looks, Follo
 use Rattle.rank_certificate.specs.declared.asked.Asked.{Asked}
 use Rattle.rank_certificate.specs.declared.growth.Growth.{Growth}
 
--- how many states its question has
+-- The question has this many states.
 abbrev pub states_in : Asked → ℕ
 states_in a = states a.question.now
 
--- its values, by state
+-- The value of each state is its entry in the values.
 abbrev pub value_in : Asked → ℕ → ℕ
 value_in a = slice_index a.values.now
 
--- the choices that are given
+-- The search may be given choices.
 abbrev pub only_in : Asked → Option (List (Option ℕ))
 only_in a = option_copied a.only
 
--- a state of positive value that is neither goal nor dead
+-- The state has a positive value and is neither goal nor dead.
 abbrev pub NeedsRankIn : Asked → ℕ → Type 0
 NeedsRankIn a s = NeedsRank a.question.now (value_in a) s
 
--- a choice that carries its state into these states
+-- The choice carries its state into these states.
 abbrev pub CarriesIn : Asked → (ℕ → Type 0) → ℕ → ℕ → Type 0
 CarriesIn a among s c = Carries a.question.now (value_in a) (only_in a) among s c
 
--- the first choice that does
+-- This is the first choice that carries its state into these states.
 abbrev pub IsFirstCarryingIn : Asked → (ℕ → Type 0) → ℕ → ℕ → Type 0
 IsFirstCarryingIn a among s c = IsFirstCarrying a.question.now (value_in a) (only_in a) among s c
 
--- the states up to a layer are found
+-- The states up to a layer are found.
 abbrev pub IsGrowthIn : Asked → ℕ → ℕ → List ℕ → Growth → Type 0
 IsGrowthIn a level begin old g =
     IsGrowth a.question.now (value_in a) (only_in a) level begin old g.ranks.items g.choices.items g.order.items
 
--- if the state has no rank, it is of no layer up to the next one
+-- If the state has no rank, it is in no layer up to the next one.
 abbrev pub IsApartIn : Asked → ℕ → Growth → ℕ → Type 0
 IsApartIn a level g s = IsApart a.question.now (value_in a) (only_in a) level g.ranks.items s
 
--- a state was looked at
+-- The state was looked at.
 abbrev pub LooksIn : Asked → ℕ → ℕ → Growth → Growth → Type 0
 LooksIn a level s g g' = Looks a.question.now (value_in a) (only_in a) level s g.ranks.items g.choices.items
     g.order.items g'.ranks.items g'.choices.items g'.order.items
 
--- the moves of a part were followed to the state at hand
+-- The moves of a part were followed to the state at hand.
 abbrev pub FollowsIn : Asked → ℕ → ℕ → List Move → Growth → Growth → Type 0
 FollowsIn a level hand part g g' = Follows a.question.now (value_in a) (only_in a) level hand part g.ranks.items
     g.choices.items g.order.items g'.ranks.items g'.choices.items g'.order.items
 
--- all moves were followed to the states of an order from one place up to another
+-- All moves were followed to the states of an order from one place up to another.
 abbrev pub AreFollowedIn : Asked → ℕ → List ℕ → ℕ → ℕ → Growth → Type 0
 AreFollowedIn a level old from upto g =
     AreFollowed a.question.now (value_in a) (only_in a) level old from upto g.ranks.items
 
--- no layer has a state that has no rank
+-- All layers are found: no layer has a state without a rank.
 abbrev pub IsGrownIn : Asked → Growth → Type 0
 IsGrownIn a g = IsGrown a.question.now (value_in a) (only_in a) g.ranks.items g.choices.items

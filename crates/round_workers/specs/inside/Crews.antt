@@ -1,15 +1,16 @@
--- Workers in a row and their states.
+-- A crew is a row of workers, and has their states.
 use Rattle.std.specs.Prelude.{◌≡◌, ◌+◌, ◌-◌, ◌/◌, ◌≤◌, List}
 use Rattle.game_model.specs.Game.{Distribution}
 use Rattle.round_workers.specs.declared.crew.Crew.{Crew}
 use Rattle.round_workers.specs.Share.{BeginsBlock}
 
--- the states of a crew begin where those of its first worker do, and end where those behind its last one begin
+-- The states of a crew begin where those of its first worker do, and end where those of the worker after its last one
+-- begin.
 pub record IsCrew (game : List (List Distribution)) (crew : Crew) : Type 0 where
   pub begins : BeginsBlock game crew.workers crew.first crew.low
   pub ends : BeginsBlock game crew.workers crew.last crew.high
 
--- two crews, one behind the other, of half of the workers each
+-- Two crews, one after the other, have about half of the workers each.
 pub record AreHalves (game : List (List Distribution)) (crew front back : Crew) : Type 0 where
   pub front_crew : IsCrew game front
   pub back_crew : IsCrew game back

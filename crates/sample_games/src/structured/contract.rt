@@ -1,21 +1,21 @@
-// Contract signing by two parties.
+// Two parties sign a contract.
 use super::Model;
 use crate::draft::Draft;
 use game_model::Game;
 use std::alloc::Global;
 
-/// The stages of the protocol.
+/// The protocol has this number of stages.
 const STAGES: u32 = 200;
 
-/// The state in which a party has the advantage.
+/// In this state a party has the advantage.
 const ADVANTAGE: u32 = STAGES;
 
-/// The state in which none has.
+/// In this state no party has the advantage.
 const FAIR: u32 = STAGES + 1;
 
-/// The parties release secrets in turn: at each stage a party releases the next one, which succeeds with probability
-/// 0.9999, or stops, and then the last stage alone gives the other one the advantage, with 0.5. The weights are per ten
-/// thousand. The goal is the advantage.
+/// The parties release secrets in turn. At each stage a party releases the next secret, which succeeds with probability
+/// 0.9999, or stops. The last stage gives the advantage: a release with probability 0.9999, and a stop with probability
+/// 0.5. A stop at an earlier stage is fair. The weights are per ten thousand. The goal is the advantage.
 pub fn contract(alloc: Global) -> Option<Model> {
     let mut goal = vec![in alloc; false; FAIR as usize + 1].ok()?;
     goal[ADVANTAGE as usize] = true;
@@ -25,7 +25,7 @@ pub fn contract(alloc: Global) -> Option<Model> {
     })
 }
 
-// The game of the stages.
+// Makes the game of the stages.
 fn protocol(alloc: Global) -> Option<Game> {
     let mut draft = Draft::new(alloc, STAGES + 2);
     for stage in 0..STAGES - 1 {

@@ -1,21 +1,22 @@
-// Models from a rule of successors.
+// Models are made from a rule of successors.
 use super::Model;
 use crate::draft::{Draft, merged};
 use std::alloc::Global;
 
-/// The most states that are numbered.
+/// At most this many states are numbered.
 const MOST_NUMBERED: usize = 1_000;
 
-/// A state, by what holds in it.
+/// A state is given by what holds in it.
 pub trait Situation: Copy + PartialEq {
-    /// The choices there: each is a list of states that it leads to, with the probability of each in per cent.
+    /// Lists the choices of the state. Each is a list of states that it leads to, with the probability of each in per
+    /// cent.
     fn choices(self, alloc: Global) -> Option<Vec<Vec<(Self, u64)>>>;
 
-    /// Whether it is a goal.
+    /// Returns whether the state is a goal.
     fn is_goal(self) -> bool;
 }
 
-/// The model of the states that are reached from the first one, numbered breadth first.
+/// Makes the model of the states that are reached from the first one, numbered breadth first.
 pub(crate) fn model_from<S: Situation>(alloc: Global, first: S) -> Option<Model> {
     let states = reached(alloc, first)?;
     let mut draft = Draft::new(alloc, u32::try_from(states.len()).ok()?);
@@ -30,7 +31,7 @@ pub(crate) fn model_from<S: Situation>(alloc: Global, first: S) -> Option<Model>
     })
 }
 
-// The states that are reached, breadth first, where there are not too many.
+// Lists the states that are reached, breadth first, if there are not too many.
 fn reached<S: Situation>(alloc: Global, first: S) -> Option<Vec<S>> {
     let mut states = Vec::new(alloc);
     states.push(first).ok()?;
@@ -46,7 +47,7 @@ fn reached<S: Situation>(alloc: Global, first: S) -> Option<Vec<S>> {
     None
 }
 
-// Adds those successors that are not there yet.
+// Adds those successors that are not yet listed.
 fn add_new<S: Situation>(states: &mut Vec<S>, choice: &[(S, u64)]) -> Option<()> {
     for (to, _) in choice {
         if place_of(states, *to).is_none() {
@@ -56,7 +57,7 @@ fn add_new<S: Situation>(states: &mut Vec<S>, choice: &[(S, u64)]) -> Option<()>
     Some(())
 }
 
-// Where a state stands among others.
+// Finds the place of a state in a list.
 fn place_of<S: Situation>(states: &[S], wanted: S) -> Option<usize> {
     states.iter().position(|state| *state == wanted)
 }
@@ -69,7 +70,7 @@ fn add_state<S: Situation>(alloc: Global, draft: &mut Draft, states: &[S], state
     draft.end_state(alloc)
 }
 
-// The edges of a choice, by numbers of states.
+// Makes the edges of a choice, with the numbers of states.
 fn edges_of<S: Situation>(
     alloc: Global,
     states: &[S],

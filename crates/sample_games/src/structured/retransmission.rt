@@ -1,15 +1,15 @@
-// Bounded retransmission.
+// The protocol retransmits a frame a bounded number of times.
 use super::Model;
 use super::numbered::{Situation, model_from};
 use std::alloc::Global;
 
-/// The last frame that is sent, counted from 0.
+/// This is the last frame that is sent, counted from 0.
 const LAST_FRAME: u32 = 29;
 
-/// How often a frame is sent again at most.
+/// A frame is sent again at most this many times.
 const RETRIES: u32 = 3;
 
-/// What has become of a frame.
+/// This is what has become of a frame.
 #[derive(Clone, Copy, PartialEq)]
 enum Phase {
     Sent,
@@ -17,10 +17,10 @@ enum Phase {
     Lost,
 }
 
-/// What the sender does.
+/// This is what the sender does.
 #[derive(Clone, Copy, PartialEq)]
 enum Sender {
-    /// It waits for the frame's acknowledgement, after so many tries that failed.
+    /// The sender waits for the acknowledgement of the frame, after this many tries that failed.
     Waits {
         frame: u32,
         tries: u32,
@@ -31,7 +31,7 @@ enum Sender {
 }
 
 impl Sender {
-    /// What follows the acknowledgement of a frame.
+    /// This follows the acknowledgement of a frame.
     fn after(frame: u32) -> Sender {
         if frame >= LAST_FRAME {
             return Sender::Done;
@@ -43,7 +43,7 @@ impl Sender {
         }
     }
 
-    /// What follows the loss of a frame or of its acknowledgement.
+    /// This follows the loss of a frame or of its acknowledgement.
     fn again(frame: u32, tries: u32) -> Sender {
         if tries >= RETRIES {
             return Sender::GaveUp;
@@ -88,7 +88,7 @@ impl Situation for Sender {
     }
 }
 
-/// Each frame is sent until it is acknowledged, but not too often; a frame is lost with probability 0.02, an
+/// Each frame is sent until it is acknowledged, but not too often. A frame is lost with probability 0.02 and an
 /// acknowledgement with 0.01. The goal is that the sender gives up.
 pub fn retransmission(alloc: Global) -> Option<Model> {
     let first = Sender::Waits {

@@ -1,15 +1,15 @@
-// A robot on a square grid with wind.
+// A robot moves on a square grid with wind.
 use super::Model;
 use crate::draft::{Draft, merged};
 use std::alloc::Global;
 
-/// The fields of a side of the grid.
+/// A side of the grid has this many fields.
 const SIDE: u32 = 160;
 
-/// The fields of the grid, by rows.
+/// The grid has this many fields, which are numbered by rows.
 const FIELDS: u32 = SIDE * SIDE;
 
-/// Which way the robot steers.
+/// The robot steers this way.
 #[derive(Clone, Copy)]
 enum Way {
     East,
@@ -19,7 +19,7 @@ enum Way {
 }
 
 impl Way {
-    /// The ways to both sides, in any order: the robot slips to each with the same weight.
+    /// Returns the ways to both sides, in any order, because the robot slips to each with the same weight.
     fn sides(self) -> (Way, Way) {
         match self {
             Way::East | Way::West => (Way::North, Way::South),
@@ -27,7 +27,7 @@ impl Way {
         }
     }
 
-    /// The field that a step leads to; at the border the robot stays.
+    /// Returns the field that a step leads to. At the border the robot stays.
     fn from(self, field: u32) -> u32 {
         match self {
             Way::East if field % SIDE < SIDE - 1 => field.saturating_add(1),
@@ -39,8 +39,8 @@ impl Way {
     }
 }
 
-/// The robot steers in one of four directions and gets there with probability 0.8, and is blown to either side with
-/// 0.1 each. The goal is the far corner; every seventeenth field is a pit, which it never leaves.
+/// The robot steers in one of four directions. It gets there with probability 0.8, and is blown to either side with 0.1
+/// each. The goal is the far corner. Every seventeenth field is a pit, which the robot never leaves.
 pub fn robot(alloc: Global) -> Option<Model> {
     let mut draft = Draft::new(alloc, FIELDS);
     let mut goal = Vec::new(alloc);
@@ -59,7 +59,7 @@ pub fn robot(alloc: Global) -> Option<Model> {
     })
 }
 
-// The next field, with its four choices.
+// Adds the next field, with its four choices.
 fn add_field(alloc: Global, draft: &mut Draft, field: u32) -> Option<()> {
     for way in &[Way::East, Way::South, Way::West, Way::North] {
         draft.choice(alloc, &steered(alloc, field, *way)?)?;
@@ -67,7 +67,7 @@ fn add_field(alloc: Global, draft: &mut Draft, field: u32) -> Option<()> {
     draft.end_state(alloc)
 }
 
-// The edges of the choice to steer this way.
+// Makes the edges of the choice to steer this way.
 fn steered(alloc: Global, field: u32, way: Way) -> Option<Vec<(u32, u64)>> {
     let (left, right) = way.sides();
     merged(

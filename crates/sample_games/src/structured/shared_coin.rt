@@ -1,12 +1,12 @@
-// A shared coin of two processes.
+// Two processes share a coin.
 use super::Model;
 use super::numbered::{Situation, model_from};
 use std::alloc::Global;
 
-/// How far the counter goes each way from where it begins: the range of 4 by two processes.
+/// The counter goes this far each way from where it begins: the range is 4 by two processes.
 const REACH: u32 = 8;
 
-/// What a process has tossed, and has not yet counted.
+/// This is what a process has tossed and not yet counted.
 #[derive(Clone, Copy, PartialEq)]
 enum Toss {
     Nothing,
@@ -14,7 +14,7 @@ enum Toss {
     Down,
 }
 
-/// The counter, and what each process has tossed.
+/// A state has the counter, and what each process has tossed.
 #[derive(Clone, Copy, PartialEq)]
 struct Tossing {
     counter: u32,
@@ -23,12 +23,12 @@ struct Tossing {
 }
 
 impl Tossing {
-    /// Whether the counter has passed its range.
+    /// Returns whether the counter has come to an end of its range.
     fn is_over(self) -> bool {
         self.counter == 0 || self.counter >= 2 * REACH
     }
 
-    /// The choice of a process that has tossed this, where `made` gives the state with another counter and toss.
+    /// Makes the choice of a process that has tossed this. `made` gives the state with another counter and toss.
     fn choice<F: Fn(u32, Toss) -> Tossing>(
         self,
         alloc: Global,
@@ -92,8 +92,8 @@ impl Situation for Tossing {
     }
 }
 
-/// Each process in turn tosses, and moves a counter up or down, until it passes the range; the player chooses which
-/// process goes on. The goal is that the counter passes it upward.
+/// Each process tosses, and then moves a counter up or down, until the counter comes to an end of its range. The player
+/// chooses which process goes on. The goal is that the counter comes to the upper end.
 pub fn shared_coin(alloc: Global) -> Option<Model> {
     let first = Tossing {
         counter: REACH,

@@ -1,4 +1,4 @@
--- What is made for a command: an answer, or why there is none.
+-- These definitions say what is made for a command: an answer, or the reason why there is none.
 use Rattle.std.specs.Prelude.{◌≡◌, ◌≤◌, ℕ, List, Bool, true, Option, Result, Err, IfOk, IsErrOf}
 use Rattle.text_lines.specs.Limits.{most_bytes}
 use Rattle.game_outside.specs.Outside.{Holding, Rose, KeepsShelf}
@@ -15,8 +15,8 @@ use Rattle.run_answers.specs.Status.{IsAnswer}
 use Rattle.stogame_app.specs.Commands.{IsMissing, ReadsFiles, RefusesIt}
 use Rattle.stogame_app.specs.Reports.{IsReportOfWords}
 
--- What is made for a command of what was read, where nothing more is asked of a shelf: its report and its status, or
--- its first refusal.
+-- For a command whose texts were read, its report and status are made, or its first refusal. Nothing more is asked of a
+-- shelf.
 pub record IsMadeOf (command : Command) (asked : Asked) (reading : Reading) (result : Result Answer End) : Type 0 where
   pub answered : (holding : Option Holding) (words : List (List ℕ)) (taken : ℕ) → Reads holding asked reading
       → AreCommand words command → taken ≤ most_bytes
@@ -26,21 +26,22 @@ pub record IsMadeOf (command : Command) (asked : Asked) (reading : Reading) (res
       → result ≡ Err (Refused refusal) → RefusesIt holding command refusal
   pub nothing : ReadsNothing result
 
--- The answer to a command, and what making it does to a shelf.
+-- This is the answer to a command, with what making it does to a shelf.
 pub record IsAnswered {S : Type 0} (held : S → Option Holding) (steady : S → Bool) (faults took : S → ℕ)
     (command : Command) (old new : S) (result : Result Answer End) : Type 0 where
-  -- to words that denote it, its report, and its status
+  -- For words that denote the command, the answer is its report and its status.
   pub answered : (words : List (List ℕ)) → AreCommand words command
       → IfOk result (λ answer. IsReportOfWords words (held old) (took new) answer.text.items answer.status)
   pub status : IfOk result (λ answer. IsAnswer answer.status)
-  -- its first refusal, and never one for want of memory
+  -- A refusal is the first one of the command, and its cause is never that memory ran out.
   pub refused : (refusal : Refusal) → result ≡ Err (Refused refusal) → RefusesIt (held old) command refusal
   pub caused : EndsCaused result
-  -- it doesn't fail by itself, and over a steady shelf only where a text is not held
+  -- A fault of reading is given only if the count of faults rose and the command reads files, and over a steady shelf
+  -- only if a text is not held.
   pub read_fault : IsErrOf result ReadFault → Rose (faults old) (faults new) × ReadsFiles command
   pub steadily : IsErrOf result ReadFault → steady old ≡ true → IfKnown (held old) (λ held. IsMissing held command)
-  -- how much is taken of the last text
+  -- This says how much is taken from the last text.
   pub takes : ReadsFiles command → Takes result (took new)
   pub untouched : ¬ ReadsFiles command → new ≡ old
-  -- what is held, and whether it is steady, stay, and the count of faults does not fall
+  -- The holding and the steadiness stay the same, and the count of faults does not fall.
   pub kept : KeepsShelf (held old) (held new) (steady old) (steady new) (faults old) (faults new)

@@ -1,4 +1,4 @@
--- What a report of `check` or of `solve` needs of the problem that was posed.
+-- This is what a report of `check` or of `solve` needs of the problem that was posed.
 use Rattle.std.specs.Prelude.{◌≡◌}
 use Rattle.formula_reader.specs.Formula.{Tree, tree_of}
 use Rattle.asked_files.specs.declared.problem.Problem.{Problem}
@@ -6,8 +6,8 @@ use Rattle.asked_files.specs.declared.problem.Problem.TheVariants.{Reach, Within
 use Rattle.question_reports.specs.Nested.{IsAnswerable}
 use Rattle.question_reports.specs.Sweeps.{IsOpening}
 
--- it can be reported on: with `X` the table is one of one step, and with formulas inside what was loaded poses it, and
--- is of this formula
+-- The problem can be reported on. With `X` the table is an opening table of one step. With formulas inside, what was
+-- loaded poses the problem and has this formula.
 abbrev pub IsReportable : Problem → Tree → Type 0
 IsReportable (Reach posed dual) f = Unit {0}
 IsReportable (Within posed steps) f = Unit {0}

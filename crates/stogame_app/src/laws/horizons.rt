@@ -1,4 +1,4 @@
-//! What a sound plan says of the values within k steps.
+//! A sound plan bounds the values within k steps.
 
 ghost use Rattle.std.specs.Prelude.{ℕ, ◌<◌, slice_index};
 ghost use Rattle.game_model.specs.Bounds.{IsHigh, IsNear};
@@ -11,8 +11,8 @@ ghost use Rattle.verdicts.specs.Verdict.{verdict_of};
 
 use verdicts::laws::verdicts_are_true;
 
-/// Each lower bound of a sound plan, less any 1/m, is at most some k-step value, and each upper bound at least every
-/// one; and what the verdict of its bounds says holds of the k-step values.
+/// Each lower bound of a sound plan, less any 1/m, is at most some k-step value, and each upper bound is at least every
+/// k-step value. What the verdict of its bounds says holds of the k-step values.
 pub fn sound_plans_bound_k_step_values()
     ensures near { (q : Query) (plan : Plan) → IsQuery q → IsSoundPlan q plan
         → IsNear q (slice_index plan.lower.items) }

@@ -1,4 +1,4 @@
-//! What `check` and `solve` write, where it is saved and read again.
+//! What `check` and `solve` write can be saved and read again.
 
 ghost use Rattle.std.specs.Prelude.{◌≡◌, ◌≤◌, ℕ, List, length, true, Option, Some};
 ghost use Rattle.text_lines.specs.Limits.{most_bytes};
@@ -13,7 +13,7 @@ use command_words::laws::words_denote_one_command;
 use plan_text::laws::{certificates_are_read_back, certificates_are_what_is_read};
 use rpatl_syntax::laws::formulas_of_texts_are_spellable;
 
-/// What `check` writes is no longer than a text may be, with a certificate and without: so `audit` does not refuse it
+/// What `check` writes is no longer than a text may be, with a certificate and without. So `audit` does not refuse it
 /// as too long.
 pub fn printed_certificates_are_short()
     ensures { (words : List (List ℕ)) (holding : Option Holding) (taken : ℕ) (check : Check) (text : List ℕ)
@@ -24,8 +24,8 @@ pub fn printed_certificates_are_short()
     formulas_of_texts_are_spellable();
 }
 
-/// What `check` writes with `--plan` is accepted by an audit of the same question, in the whole output as it stands,
-/// over a shelf that holds it and the same texts for the question. So `complete` of `run` says that the audit answers.
+/// An audit of the same question accepts the whole output that `check` writes with `--plan`, over a shelf that holds it
+/// and the same texts for the question. So `complete` of `run` says that the audit answers.
 pub fn what_check_writes_is_accepted()
     ensures { (words : List (List ℕ)) (held later : Holding) (taken : ℕ) (check : Check) (audit : Audit) (text : List ℕ)
         (status : Status) → AreCommand words (OfCheck check) → IsReportOfWords words (Some held) taken text status
@@ -49,7 +49,7 @@ pub fn solved_certificates_are_short()
     formulas_of_texts_are_spellable();
 }
 
-/// What `solve` writes with `--plan` is accepted by an audit of the same question, in the whole output as it stands.
+/// An audit of the same question accepts the whole output that `solve` writes with `--plan`.
 pub fn what_solve_writes_is_accepted()
     ensures { (words : List (List ℕ)) (held later : Holding) (taken : ℕ) (solve : Solve) (audit : Audit) (text : List ℕ)
         (status : Status) → AreCommand words (OfSolve solve) → IsReportOfWords words (Some held) taken text status

@@ -1,4 +1,4 @@
-//! Laws of the best strategies: what each side can be sure of.
+//! This module has the laws of the best strategies: what each side can be sure of.
 
 ghost use Rattle.std.specs.Prelude.{ℕ, Bool, if◌then◌else◌};
 ghost use Rattle.game_model.specs.Game.{choices_of};
@@ -7,14 +7,14 @@ ghost use Rattle.game_model.specs.Values.{optimum};
 ghost use Rattle.strategies.specs.Strategies.{worth, AreBest};
 ghost use Rattle.strategies.specs.Next.{AreBestNext};
 
-/// The k-step value is the greatest probability that the maximiser can be sure of, and the least that the
-/// minimiser can hold it to, among all strategies with memory and dice.
+/// The k-step value is the greatest probability that the maximiser can be sure of, and the least to which the minimiser
+/// can hold the maximiser, among all strategies with memory and dice.
 pub fn values_are_best()
     ensures { (q : Query) (k : ℕ) → IsQuery q → AreBest q k }
 {}
 
-/// The greatest probability for the next state that the maximiser can be sure of, and the least to which the minimiser
-/// can hold it, is the optimum of the choices.
+/// The optimum of the choices is the greatest probability for the next state that the maximiser can be sure of, and the
+/// least to which the minimiser can hold the maximiser.
 pub fn next_values_are_best()
     ensures { (q : Query) (holds : ℕ → Bool) → IsQuery q
         → AreBestNext q holds (λ s. optimum (side_at q s) (worth q (λ t. if holds t then 1 else 0))

@@ -1,4 +1,4 @@
--- What the reader of lines in any order holds.
+-- These definitions say what the reader of lines in any order holds.
 use Rattle.std.specs.Prelude.{◌≡◌, ℕ, List, Option, Some, Result}
 use Rattle.std.specs.List.{All}
 use Rattle.game_model.specs.Game.{Distribution}
@@ -13,46 +13,45 @@ use Rattle.transition_lines.specs.Order.{IsWithin}
 use Rattle.tra_reader.specs.inside.Noted.{NotesLines}
 use Rattle.tra_reader.specs.inside.Reading.{IsRight, Begins, TakesLine, RefusesLine, AddsRow, RefusesRow, Finishes}
 
--- the header behind which these rows stand
+-- This is the header of the text to which these rows belong.
 abbrev pub any_header : AnyRows → Header
 any_header held = held.header
 
--- these rows of n states are held: their transitions, and the first action of each choice
+-- These rows of n states are held: their transitions, and the first action of each choice.
 pub record AreWaiting (n : ℕ) (kept : List Transition) (actions : LineActions) (rows : List Row) : Type 0 where
   pub transitions : transitions rows ≡ kept
   pub within : All (λ row. IsWithin n row.transition) rows
   pub notes : NotesLines actions rows
 
--- these rows have been read behind the header, in whatever order their choices stand
+-- These rows have been read behind the header, in whatever order their choices come.
 abbrev pub HoldsAny : AnyRows → List Row → Type 0
 HoldsAny held rows = AreWaiting held.header.states held.transitions.items held.actions rows
 
--- the answer is right for a text that goes on with these lines, of which the first has this number; a fault is one of
--- the text, or want of memory
+-- The answer is right if the text goes on with these lines, the first of which has this number. A fault is one of the
+-- text, or memory ran out.
 abbrev pub AnyRight : Option AnyRows → ℕ → List (List ℕ) → Result (List (List Distribution)) TraFault → Type 0
 AnyRight = IsRight any_header HoldsAny (λ fault. Some fault)
 
--- the line is the header, behind which no row is held yet, or it has this fault; or memory ran out
+-- The line is the header, behind which no row is held yet, or it has this fault, or memory ran out.
 abbrev pub BeginsAny : List ℕ → Result AnyRows TraFault → Type 0
 BeginsAny = Begins any_header HoldsAny
 
--- the line says the next row, which is held with the others from now on
+-- The line says the next row, which is held with the others from now on.
 abbrev pub TakesAny : AnyRows → AnyRows → List ℕ → Type 0
 TakesAny = TakesLine any_header HoldsAny
 
--- the line of this number has this fault behind the rows that are held, or memory ran out
+-- The line of this number has this fault behind the rows that are held, or memory ran out.
 abbrev pub RefusesAny : AnyRows → ℕ → List ℕ → TraFault → Type 0
 RefusesAny = RefusesLine any_header HoldsAny (λ fault. Some fault)
 
--- the row has no other action than the rows of its choice that are held, and is held with them from now on
+-- The row has the same action as the held rows of its choice, and is held with them from now on.
 abbrev pub AddsAny : AnyRows → AnyRows → Row → Type 0
 AddsAny = AddsRow any_header HoldsAny
 
--- the row, of the line of this number, has another action than its choice has by the rows that are held; or memory ran
--- out
+-- The row of the line of this number has another action than the held rows give its choice, or memory ran out.
 abbrev pub RefusesAnyRow : AnyRows → ℕ → Row → TraFault → Type 0
 RefusesAnyRow = RefusesRow HoldsAny (λ fault. Some fault)
 
--- at the end of the text the rows that are held make this game, or have this first fault; or memory ran out
+-- At the end of the text the held rows make this game, or have this first fault, or memory ran out.
 abbrev pub FinishesAny : AnyRows → Result (List (List Distribution)) TraFault → Type 0
 FinishesAny = Finishes any_header HoldsAny

@@ -1,4 +1,4 @@
--- Games under way, made of transitions that come in the order of their choices.
+-- A game under way is made of transitions that come in the order of their choices.
 use Rattle.std.specs.Prelude.{◌≡◌, ◌<◌, ◌≤◌, ◌⊎◌, ℕ, ◌+◌, ◌==◌, List, [], ◌∷◌, ◌++◌, length, Option, Some, None, Result}
 use Rattle.std.specs.Prelude.{Ok, Err, if◌then◌else◌}
 use Rattle.std.specs.List.{All}
@@ -20,21 +20,21 @@ use Rattle.transition_lines.specs.Choices.{transitions_of, parts_of, self_loop, 
 use Rattle.transition_lines.specs.Choices.{first_crowded, choices_said, states_said, if_as_stated}
 use Rattle.transition_lines.specs.Order.{Rises, IsWithin, place_of, transition_place}
 
--- each edge leads to one of n states
+-- Each edge leads to one of n states.
 abbrev pub LeadsInside : ℕ → Distribution → Type 0
 LeadsInside n distribution = All (λ e. e.to < n) distribution.edges
 
--- 1. The whole choices: those of the first s states, and the first k of the next state.
+-- 1. The whole choices are those of the first s states, and the first k of the next state.
 
--- None of them is missing, and they are this many. Of the states that are whole, this is the first with too many, or
--- none has.
+-- No whole choice is missing, and `count` is their number. `crowded` is the first of the s states with too many
+-- choices, if there is one.
 pub record AreCounted (crowded : Option ℕ) (transitions : List Transition) (s k count : ℕ) : Type 0 where
   pub full : first_gap transitions s ≡ None
   pub few : first_crowded transitions s ≡ crowded
   pub there : (j : ℕ) → j < k → 0 < length (transitions_of transitions s j)
   pub total : count ≡ sum_of_first (choice_end transitions) s + k
 
--- the draft has them, and they lead to n states
+-- The draft has the whole choices, and they lead to n states.
 pub record AreDrafted (n : ℕ) (transitions : List Transition) (s k : ℕ) (draft : Draft) : Type 0 where
   pub done : states_said transitions s ≡ Ok draft.done
   pub under_way : choices_said transitions s k ≡ Ok draft.under_way
@@ -45,17 +45,17 @@ pub record AreDrafted (n : ℕ) (transitions : List Transition) (s k : ℕ) (dra
   pub inside : All (λ choices. All (LeadsInside n) choices) draft.done
   pub inside_under_way : All (LeadsInside n) draft.under_way
 
--- those of the first states have no fault, and of the choices of the next state this is the first
+-- The first s states have no fault, and this is the first fault of the k choices of the next state.
 pub record HaveChoiceFault (transitions : List Transition) (s k : ℕ) (fault : TraFault) : Type 0 where
   pub before : List (List Distribution)
   pub done : states_said transitions s ≡ Ok before
   pub said : choices_said transitions s k ≡ Err fault
 
--- this is the first fault of them
+-- This is the first fault of the whole choices.
 abbrev pub HaveFault : List Transition → ℕ → ℕ → TraFault → Type 0
 HaveFault transitions s k fault = (states_said transitions s ≡ Err fault) ⊎ HaveChoiceFault transitions s k fault
 
--- choice j of state i is missing before one that is there, and it is the first
+-- Choice j of state i is the first that is missing before a choice that is there.
 pub record HasGap (transitions : List Transition) (i j : ℕ) : Type 0 where
   pub full : first_gap transitions i ≡ None
   pub there : (k : ℕ) → k < j → 0 < length (transitions_of transitions i k)
@@ -64,7 +64,7 @@ pub record HasGap (transitions : List Transition) (i j : ℕ) : Type 0 where
   pub behind : j < later
   pub found : 0 < length (transitions_of transitions i later)
 
--- what has come of the whole choices of n states
+-- This is the progress that the whole choices of n states make.
 abbrev pub IsMade : ℕ → List Transition → ℕ → ℕ → ℕ → Progress → Type 0
 IsMade n transitions s k count (Builds draft) =
     AreCounted None transitions s k count × AreDrafted n transitions s k draft
@@ -73,95 +73,95 @@ IsMade n transitions s k count (Crowded i) = AreCounted (Some i) transitions s k
 IsMade n transitions s k count (Gap i j) = HasGap transitions i j × (place_of i j < place_of s k)
 IsMade n transitions s k count OutOfMemory = Unit {0}
 
--- this is what has come of the choices before the one under way, which these transitions between n states make
+-- This is the progress that these transitions between n states make with the choices before the one under way.
 abbrev pub IsWhole : ℕ → List Transition → WholeChoices → Type 0
 IsWhole n transitions whole = IsMade n transitions whole.state whole.choice whole.count whole.progress
 
--- the place behind the whole choices
+-- This is the place behind the whole choices.
 abbrev pub place_behind : WholeChoices → ℕ
 place_behind whole = place_of whole.state whole.choice
 
--- no transition stands from the one place to before the other
+-- No transition has a place at or after `from` and before `to`.
 abbrev pub NoneBetween : List Transition → ℕ → ℕ → Type 0
 NoneBetween transitions from to = (s k : ℕ) → k < most_stated_choices → from ≤ place_of s k → place_of s k < to
     → transitions_of transitions s k ≡ []
 
--- all choices before this place are whole
+-- All choices before this place are whole.
 pub record AreWholeBefore (n : ℕ) (transitions : List Transition) (place : ℕ) (whole : WholeChoices) : Type 0 where
   pub made : IsWhole n transitions whole
   pub low : whole.choice ≤ most_stated_choices
   pub none : NoneBetween transitions (place_behind whole) place
   pub within : All (IsWithin n) transitions
 
--- 2. Steps.
+-- 2. These definitions are about steps.
 
--- the choice k of state s, which has these parts, is whole too
+-- The step makes choice k of state s, which has these parts, whole.
 abbrev pub EndsChoice : List Part → ℕ → ℕ → Progress → Progress → Type 0
 EndsChoice parts s k old new = (n count : ℕ) (transitions : List Transition) → parts ≡ parts_of transitions s k
     → 0 < length parts → All (IsWithin n) transitions
     → IsMade n transitions s k count old → IsMade n transitions s (k + 1) (count + 1) new
 
--- the state s, which has k choices, is whole too
+-- The step makes state s, which has k choices, whole.
 abbrev pub EndsState : ℕ → ℕ → Progress → Progress → Type 0
 EndsState s k old new = (n count : ℕ) (transitions : List Transition) → s < n → k ≤ most_stated_choices
     → ((j : ℕ) → k ≤ j → transitions_of transitions s j ≡ []) → All (IsWithin n) transitions
     → IsMade n transitions s k count old → IsMade n transitions (s + 1) 0 count new
 
--- the state s, which has too many choices, is whole too
+-- The step makes state s, which has too many choices, whole.
 abbrev pub CrowdsState : ℕ → Progress → Progress → Type 0
 CrowdsState s old new = (k : ℕ) → most_choices < k → EndsState s k old new
 
--- the choice k of state s is missing before a later one
+-- The step notes that choice k of state s is missing before a later one.
 abbrev pub NotesGap : ℕ → ℕ → Progress → Progress → Type 0
 NotesGap s k old new = (n count later : ℕ) (transitions : List Transition) → k < later
     → transitions_of transitions s k ≡ [] → 0 < length (transitions_of transitions s later)
     → IsMade n transitions s k count old → IsMade n transitions s later count new
 
--- the choice under way, which has these parts, is whole too
+-- The step makes the choice under way, which has these parts, whole.
 abbrev pub AddsChoice : List Part → WholeChoices → WholeChoices → Type 0
 AddsChoice parts old new = (n : ℕ) (transitions : List Transition) → parts ≡ parts_of transitions old.state old.choice
     → 0 < length parts → All (IsWithin n) transitions → IsWhole n transitions old → IsWhole n transitions new
 
--- the states before `to` are whole too
+-- The step makes the states before `to` whole.
 abbrev pub EndsStates : ℕ → WholeChoices → WholeChoices → Type 0
 EndsStates to old new = (n place : ℕ) (transitions : List Transition) → to ≤ n → place_of to 0 ≤ place
     → AreWholeBefore n transitions place old → AreWholeBefore n transitions place new
 
--- All choices before state `to` are whole. The parts are those of the choice under way.
+-- The step makes all choices before state `to` whole. The parts are those of the choice under way.
 abbrev pub EndsBefore : List Part → ℕ → WholeChoices → WholeChoices → Type 0
 EndsBefore parts to old new = (n place : ℕ) (transitions : List Transition) → to ≤ n → place_of to 0 ≤ place
     → parts ≡ parts_of transitions old.state old.choice → All (IsWithin n) transitions
     → NoneBetween transitions (place_behind old + 1) place → IsWhole n transitions old
     → AreWholeBefore n transitions place new
 
--- The choice under way is this one, which has a transition.
+-- The step makes this choice, which has a transition, the one under way.
 abbrev pub GoesTo : ℕ → WholeChoices → WholeChoices → Type 0
 GoesTo choice old new = (n : ℕ) (transitions : List Transition)
     → 0 < length (transitions_of transitions old.state choice) → choice < most_stated_choices
     → AreWholeBefore n transitions (place_of old.state choice) old → IsWhole n transitions new
 
--- the choice with these parts is put behind the others
+-- The new draft has the choice with these parts behind the others.
 pub record IsBuilt (parts : List Part) (old new : Draft) : Type 0 where
   pub distribution : Distribution
   pub said : choice_said parts ≡ Ok distribution
   pub denoted : DenotesChoice parts distribution
   pub is : new ≡ with_choice old distribution
 
--- the parts have this fault, or memory ran out
+-- The parts have this fault, or memory ran out.
 abbrev pub IsChoiceFault : List Part → ChoiceFault → Type 0
 IsChoiceFault parts fault = (fault ≡ NoMemory) ⊎ (choice_said parts ≡ Err fault)
 
--- the state that has so many choices ends: where it has none, with a move to itself
+-- The draft ends a state that has `count` choices. If it has none, it gets a move to itself.
 abbrev pub ended : ℕ → ℕ → Draft → Draft
 ended s count draft = if count == 0 then with_state (with_choice draft (self_loop s)) else with_state draft
 
--- what comes of a choice with this fault
+-- This is the progress after a choice with this fault.
 abbrev pub progress_of : ℕ → ℕ → ChoiceFault → Progress
 progress_of s k NoMemory = OutOfMemory
 progress_of s k (TooFine first second) = Faulty (fault_of_choice s k (TooFine first second))
 progress_of s k (BadSum sum denominator) = Faulty (fault_of_choice s k (BadSum sum denominator))
 
--- the states of the draft make a game
+-- The states of the draft make a game.
 pub record IsReady (draft : Draft) : Type 0 where
   pub some : 0 < length draft.done
   pub few : length draft.done ≤ most_states
@@ -169,8 +169,8 @@ pub record IsReady (draft : Draft) : Type 0 where
   pub bounded : All (λ choices. length choices ≤ most_choices) draft.done
   pub inside : All (λ choices. All (LeadsInside (length draft.done)) choices) draft.done
 
--- this is true of the draft, where one is built: no choice is faulty or missing, no state has too many, and memory
--- sufficed
+-- This is true of the draft if one is built: no choice is faulty or missing, no state has too many, and memory did not
+-- run out.
 abbrev pub IfBuilds : Progress → (Draft → Type 0) → Type 0
 IfBuilds (Builds draft) P = P draft
 IfBuilds (Faulty fault) P = Unit {0}
@@ -178,42 +178,42 @@ IfBuilds (Crowded i) P = Unit {0}
 IfBuilds (Gap i j) P = Unit {0}
 IfBuilds OutOfMemory P = Unit {0}
 
--- the choices are as many as stated, or this is the fault
+-- The choices are as many as stated, or this is the fault.
 abbrev pub IsAsStated : Option ℕ → ℕ → Option TraFault → Type 0
 IsAsStated stated read None = (game : Result (List (List Distribution)) TraFault) → if_as_stated stated read game ≡ game
 IsAsStated stated read (Some fault) = (game : Result (List (List Distribution)) TraFault)
     → if_as_stated stated read game ≡ Err fault
 
--- 3. The game.
+-- 3. These definitions are about the game.
 
--- what contracts see of a game under way: the number of states, the whole choices, and the parts of the choice under
--- way
+-- A contract sees this of a game under way: the number of states, the whole choices, and the parts of the choice under
+-- way.
 pub record Growing : Type 0 where
   pub states : ℕ
   pub whole : WholeChoices
   pub parts : List Part
 
--- the place of the choice under way
+-- This is the place of the choice under way.
 abbrev pub place_under_way : Growing → ℕ
 place_under_way game = place_behind game.whole
 
--- the last of these transitions stands at this place
+-- The last of these transitions has this place.
 pub record EndsAt (place : ℕ) (transitions : List Transition) : Type 0 where
   pub before : List Transition
   pub last : Transition
   pub are : transitions ≡ before ++ last ∷ []
   pub there : transition_place last ≡ place
 
--- The game holds these transitions, which stand in the order of their choices and are within n states.
+-- The game holds these transitions, which come in the order of their choices and are within n states.
 pub record HoldsInOrder (game : Growing) (n : ℕ) (transitions : List Transition) : Type 0 where
   pub states : game.states ≡ n
   pub some : 0 < n
   pub few : n ≤ most_states
   pub within : All (IsWithin n) transitions
   pub order : Rises transition_place transitions
-  -- no transition is of a choice behind the one under way
+  -- No transition belongs to a choice behind the one under way.
   pub upto : All (λ t. transition_place t ≤ place_under_way game) transitions
-  -- the last transition is of the choice under way; where that has no part, none has come
+  -- The last transition belongs to the choice under way. If that choice has no part, no transition has come.
   pub begun : 0 < length game.parts → EndsAt (place_under_way game) transitions
   pub none : game.parts ≡ [] → transitions ≡ []
   pub parts : game.parts ≡ parts_of transitions game.whole.state game.whole.choice
@@ -221,7 +221,7 @@ pub record HoldsInOrder (game : Growing) (n : ℕ) (transitions : List Transitio
   pub choice_in : game.whole.choice < most_stated_choices
   pub whole : IsWhole n transitions game.whole
 
--- a game that holds some transitions
+-- The game holds a list of transitions, which may be empty.
 pub record HoldsSome (game : Growing) : Type 0 where
   pub n : ℕ
   pub transitions : List Transition

@@ -1,4 +1,4 @@
--- What the reader of lines in order holds.
+-- These definitions say what the reader of lines in order holds.
 use Rattle.std.specs.Prelude.{◌≡◌, ℕ, List, length, Option, Some, None, Result}
 use Rattle.std.specs.List.{All}
 use Rattle.game_model.specs.Game.{Distribution}
@@ -14,53 +14,52 @@ use Rattle.tra_reader.specs.inside.ActionUnderWay.{IsActionUnderWay}
 use Rattle.tra_reader.specs.inside.GrowingGames.{Growing, HoldsInOrder}
 use Rattle.tra_reader.specs.inside.Reading.{IsRight, Begins, TakesLine, RefusesLine, AddsRow, RefusesRow, Finishes}
 
--- the fault that is told of the text, if one is
+-- This is the fault of the text, if the reader tells one.
 abbrev pub text_fault : Halt → Option TraFault
 text_fault OutOfOrder = None
 text_fault (Refused fault) = Some fault
 
--- the header behind which these rows stand
+-- This is the header of the text to which these rows belong.
 abbrev pub ordered_header : OrderedRows → Header
 ordered_header held = held.header
 
--- these rows of n states are held, which stand in the order of their choices: of their actions the first of the choice
--- under way is kept
+-- These rows of n states, which come in the order of their choices, are held. Of their actions, the first of the choice
+-- under way is kept.
 pub record AreInOrder (n read : ℕ) (game : Growing) (action : List ℕ) (rows : List Row) : Type 0 where
   pub holds : HoldsInOrder game n (transitions rows)
   pub within : All (λ row. IsWithin n row.transition) rows
   pub count : length rows ≡ read
   pub first : IsActionUnderWay game action rows
 
--- these rows have been read behind the header, and stand in the order of their choices
+-- These rows have been read behind the header, in the order of their choices.
 abbrev pub HoldsOrdered : OrderedRows → List Row → Type 0
 HoldsOrdered held rows = AreInOrder held.header.states held.read held.game held.action.items rows
 
--- the answer is right for a text that goes on with these lines, of which the first has this number; that a line is out
--- of order says nothing of the text
+-- The answer is right if the text goes on with these lines, the first of which has this number. That a line is out of
+-- order says nothing of the text.
 abbrev pub OrderedRight : Option OrderedRows → ℕ → List (List ℕ) → Result (List (List Distribution)) Halt → Type 0
 OrderedRight = IsRight ordered_header HoldsOrdered text_fault
 
--- the line is the header, behind which no row is held yet, or it has this fault; or memory ran out
+-- The line is the header, behind which no row is held yet, or it has this fault, or memory ran out.
 abbrev pub BeginsOrdered : List ℕ → Result OrderedRows TraFault → Type 0
 BeginsOrdered = Begins ordered_header HoldsOrdered
 
--- the line says the next row, which is held with the others from now on
+-- The line says the next row, which is held with the others from now on.
 abbrev pub TakesOrdered : OrderedRows → OrderedRows → List ℕ → Type 0
 TakesOrdered = TakesLine ordered_header HoldsOrdered
 
--- unless it is out of order, the line of this number has this fault behind the rows that are held, or memory ran out
+-- Unless it is out of order, the line of this number has this fault behind the rows that are held, or memory ran out.
 abbrev pub RefusesOrdered : OrderedRows → ℕ → List ℕ → Halt → Type 0
 RefusesOrdered = RefusesLine ordered_header HoldsOrdered text_fault
 
--- the row has no other action than the rows of its choice that are held, and is held with them from now on
+-- The row has the same action as the held rows of its choice, and is held with them from now on.
 abbrev pub AddsOrdered : OrderedRows → OrderedRows → Row → Type 0
 AddsOrdered = AddsRow ordered_header HoldsOrdered
 
--- unless it is out of order, the row has another action than its choice has by the rows that are held; or memory ran
--- out
+-- Unless it is out of order, the row has another action than the held rows give its choice, or memory ran out.
 abbrev pub RefusesOrderedRow : OrderedRows → ℕ → Row → Halt → Type 0
 RefusesOrderedRow = RefusesRow HoldsOrdered text_fault
 
--- at the end of the text the rows that are held make this game, or have this first fault; or memory ran out
+-- At the end of the text the held rows make this game, or have this first fault, or memory ran out.
 abbrev pub FinishesOrdered : OrderedRows → Result (List (List Distribution)) TraFault → Type 0
 FinishesOrdered = Finishes ordered_header HoldsOrdered

@@ -1,12 +1,12 @@
--- Parts that are broken up.
+-- This module says how parts are broken up.
 use Rattle.std.specs.Prelude.{◌≡◌, ◌≢◌, ℕ, ◌<◌, ◌≤◌, Bool, true, false, List, length, slice_index, slice_index_or}
 use Rattle.std.specs.Prelude.{Option}
 use Rattle.game_model.specs.Query.{Query, states}
 use Rattle.trap_sets.specs.Ends.{IsEndComponent}
 use Rattle.trap_sets.specs.inside.Parts.{root_of}
 
--- marks that no end component crosses, and which have the root of the part of a state, but not the state, the first one
--- with a part that they lack
+-- Marks break up the part of a state. No end component has both marked and unmarked states. The root of the part is
+-- marked. The state itself is the first unmarked state that has a part.
 pub record IsBreak (q : Query) (replies : List (Option ℕ)) (part : List ℕ) (marks : List Bool) (s : ℕ) : Type 0 where
   pub many : length marks ≡ states q
   pub inside : s < states q
@@ -17,7 +17,7 @@ pub record IsBreak (q : Query) (replies : List (Option ℕ)) (part : List ℕ) (
   pub whole : (set : ℕ → Bool) (listed : ℕ → ℕ → Bool) → IsEndComponent q replies set listed → (t u : ℕ)
       → set t ≡ true → set u ≡ true → slice_index_or marks t false ≡ true → slice_index_or marks u false ≡ true
 
--- of the first states of one part those that are not marked have another number
+-- The unmarked ones among the first states of one part get another number. All other states keep theirs.
 pub record IsSplit (old : List ℕ) (marks : List Bool) (own name n : ℕ) (new : List ℕ) : Type 0 where
   pub many : length new ≡ length old
   pub moved : (s : ℕ) → s < n → slice_index old s ≡ own → slice_index_or marks s false ≡ false

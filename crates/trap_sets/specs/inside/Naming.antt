@@ -1,7 +1,7 @@
--- Components whose states with a part are named after the first of them.
+-- The components of states with a part are named after the first of these states.
 use Rattle.std.specs.Prelude.{◌≡◌, ◌≢◌, ℕ, ◌+◌, ◌-◌, ◌<◌, ◌≤◌, List, length, slice_index}
 
--- the first states: each that has a part is in the class of its component, which is named after one of them
+-- Each of the first states that has a part is in the class of its component, which is named after one of them.
 pub record IsNaming (part component names class : List ℕ) (n : ℕ) : Type 0 where
   pub many : length class ≡ n
   pub out : (s : ℕ) → s < n → slice_index part s ≡ 0 → slice_index class s ≡ 0

@@ -1,4 +1,4 @@
--- The definitions, at a cut question.
+-- This module states the definitions for a cut question.
 use Rattle.std.specs.Prelude.{ℕ, List, Bool}
 use Rattle.game_model.specs.Query.{states}
 use Rattle.trap_sets.specs.declared.cut.Cut.{Cut}
@@ -6,30 +6,30 @@ use Rattle.trap_sets.specs.inside.Parts.{IsInner}
 use Rattle.trap_sets.specs.inside.Settled.{KeepsEnds, AreJoined, AreSettled, IsKept}
 use Rattle.trap_sets.specs.inside.Breaking.{IsBreak}
 
--- how many states a cut question has
+-- This is the number of states of a cut question.
 abbrev pub states_in : Cut → ℕ
 states_in cut = states cut.question.now
 
--- a choice of the cut question, at a state with a part, whose successors are in that part
+-- A choice of the cut question at a state with a part has all its successors in that part.
 abbrev pub IsInnerIn : Cut → List ℕ → ℕ → ℕ → Type 0
 IsInnerIn cut = IsInner cut.question.now cut.replies.now
 
--- the states with a part are neither goal nor dead, and each end component of the cut question lies in one part
+-- The states with a part are neither goal nor dead, and each end component of the cut question lies in one part.
 abbrev pub KeepsEndsOf : Cut → List ℕ → Type 0
 KeepsEndsOf cut = KeepsEnds cut.question.now cut.replies.now
 
--- the states of each part reach each other by inner choices
+-- The states of each part reach each other by inner choices.
 abbrev pub AreJoinedIn : Cut → List ℕ → Type 0
 AreJoinedIn cut = AreJoined cut.question.now cut.replies.now
 
--- each part is an end component of the cut question, and each end component lies in one
+-- Each part is an end component of the cut question, and each end component lies in one part.
 abbrev pub AreSettledOf : Cut → List ℕ → Type 0
 AreSettledOf cut = AreSettled cut.question.now cut.replies.now
 
--- marks by which the part of a state can be broken up
+-- Marks can break up the part of a state.
 abbrev pub IsBreakOf : Cut → List ℕ → List Bool → ℕ → Type 0
 IsBreakOf cut = IsBreak cut.question.now cut.replies.now
 
--- a state with an inner choice keeps its number, and any other has none
+-- A state with an inner choice keeps its number, and any other has none.
 abbrev pub IsKeptIn : Cut → List ℕ → ℕ → ℕ → Type 0
 IsKeptIn cut = IsKept cut.question.now cut.replies.now

@@ -1,4 +1,4 @@
--- The definitions, at what the guesses of one excess are made from.
+-- These are the definitions for the guesses of one excess.
 use Rattle.std.specs.Prelude.{ℕ, List, Option, Some, None, slice_index}
 use Rattle.std.specs.Global.{Vec}
 use Rattle.game_model.specs.Game.{Distribution, choices_of, choice_of}
@@ -10,43 +10,43 @@ use Rattle.game_model.specs.Tables.{IsTable}
 use Rattle.upper_guess.specs.Guess.{first_guess, guess_table, IsRefused, AreRefused, IsFirstAt}
 use Rattle.upper_guess.specs.declared.guesses.Guesses.{Guesses}
 
--- the entry of a state before any up step
+-- This is the entry of a state before any up step.
 abbrev pub first_entry_of : Guesses → ℕ → ℕ
 first_entry_of g s = first_guess g.question.now g.zero.now (slice_index g.lower.now) g.excess s
 
--- and after so many
+-- This is the entry of a state after `steps` up steps.
 abbrev pub entry_of : Guesses → ℕ → ℕ → ℕ
 entry_of g steps s = guess_table g.question.now g.zero.now (slice_index g.lower.now) g.excess steps s
 
--- a choice of a state
+-- This is a choice of a state.
 abbrev pub choice_at : Guesses → ℕ → ℕ → Distribution
 choice_at g s c = choice_of g.question.now.game s c
 
--- the up value of the best choice of a state over the entries
+-- This is the up value of the best choice of a state over the entries.
 abbrev pub best_of : Guesses → ℕ → ℕ → ℕ
 best_of g steps s = optimum (side_at g.question.now s) (up_value (entry_of g steps)) (choices_of g.question.now.game s)
 
--- the sum of weight times entry over the edges of a choice: it is between the table and itself
+-- The number is the sum of weight times entry over the edges of a choice.
 abbrev pub IsSumOf : Guesses → ℕ → Distribution → ℕ → Type 0
 IsSumOf g steps choice sum = IsSumBetween choice.edges (entry_of g steps) (entry_of g steps) sum
 
--- the table after so many up steps
+-- This is the table after `steps` up steps.
 abbrev pub IsTableOf : Guesses → ℕ → List ℕ → Type 0
 IsTableOf g steps table = IsTable g.question.now (entry_of g steps) table
 
--- the table after so many up steps is refused
+-- The table after `steps` up steps is refused.
 abbrev pub IsRefusedOf : Guesses → ℕ → Type 0
 IsRefusedOf g steps = IsRefused g.question.now (entry_of g steps)
 
--- each table of the excess is refused
+-- Each table of the excess is refused.
 abbrev pub AreRefusedOf : Guesses → Type 0
 AreRefusedOf g = AreRefused g.question.now g.zero.now (slice_index g.lower.now) g.excess
 
--- the first table of the excess that is accepted
+-- This is the first table of the excess that is accepted.
 abbrev pub IsFirstOf : Guesses → List ℕ → Type 0
 IsFirstOf g table = IsFirstAt g.question.now g.zero.now (slice_index g.lower.now) g.excess table
 
--- the up steps of a table that was made, if any
+-- This is the number of up steps of the table that was made, and 0 if none was made.
 abbrev pub steps_of : Option (Vec ℕ × ℕ) → ℕ
 steps_of None = 0
 steps_of (Some m) = m.1
