@@ -55,8 +55,8 @@ fn greatest_of(part: &[u32]) -> u32
     ensures { (s : ℕ) → s < length part.now → slice_index part.now s ≤ result }
 {
     let mut greatest: u32 = 0;
-    for number in part {
-        greatest = greatest.max(*number);
+    for place in 0..part.len() {
+        greatest = greatest.max(part[place]);
     }
     greatest
 }
