@@ -67,8 +67,31 @@ above-none d n h = elim (cases_lt 0 n) [
       let at : 0 < d * 0 = subst (λ m. 0 < d * m) is h in absurd (omega (arith, at))
 ]
 
-module _ (c : Certificate) (exact : ExactRewards) (places den : ℕ) (whole : Rewards) (posed : IsQuery c.question)
+module _ (c : Certificate) (exact : ExactRewards) (places den : ℕ) (whole : Rewards)
     (paid : ArePaid c.question exact den whole) (rounded : AreRounded c exact places) where
+  -- what is paid, rounded down, is at most what is paid exactly
+  pub low-least : (s k : ℕ) → s < states c.question → k < length (choices_of c.question.game s)
+      → den * c.low s k ≤ 10 ^ places * whole s k
+  low-least s k inside within =
+      let P : ℕ → Type 0 = λ n. den * n ≤ 10 ^ places * whole s k in
+      subst P (sym (rounded.low s k inside within))
+      (below-sum (exact.of_state s) (exact.of_choice s k) places den (whole s k) (paid.of_state s inside)
+      (paid.of_choice s k inside within) (paid.total s k inside within))
+
+  -- what is paid, rounded up, is at least that, if it is not too much for a value
+  pub high-most : (s k : ℕ) → s < states c.question → k < length (choices_of c.question.game s) → c.high s k ≤ unit
+      → 10 ^ places * whole s k ≤ den * c.high s k
+  high-most s k inside within small =
+      let P : ℕ → Type 0 = λ n. 10 ^ places * whole s k ≤ den * n in
+      let Q : ℕ → Type 0 = λ n. n ≤ unit in
+      subst P (sym (rounded.high s k inside within))
+      (above-sum (exact.of_state s) (exact.of_choice s k) places den (whole s k) (paid.of_state s inside)
+      (paid.of_choice s k inside within) (paid.total s k inside within)
+      (subst Q (rounded.high s k inside within) small))
+
+module _ (c : Certificate) (exact : ExactRewards) (places den : ℕ) (whole : Rewards) (posed : IsQuery c.question)
+    (paid : ArePaid c.question exact den whole) (rounded : AreRounded c exact places)
+    (units : (s : ℕ) → s < states c.question → c.upper s ≤ unit) where
   abbrev finely : Certificate
   finely = exact_of c places den whole
 
@@ -80,24 +103,6 @@ module _ (c : Certificate) (exact : ExactRewards) (places den : ℕ) (whole : Re
     upper = omega (arith, ap (λ n. den * n) h.upper);
   }
 
-  low-least : (s k : ℕ) → s < states c.question → k < length (choices_of c.question.game s)
-      → den * c.low s k ≤ 10 ^ places * whole s k
-  low-least s k inside within =
-      let P : ℕ → Type 0 = λ n. den * n ≤ 10 ^ places * whole s k in
-      subst P (sym (rounded.low s k inside within))
-      (below-sum (exact.of_state s) (exact.of_choice s k) places den (whole s k) (paid.of_state s inside)
-      (paid.of_choice s k inside within) (paid.total s k inside within))
-
-  high-most : (s k : ℕ) → s < states c.question → k < length (choices_of c.question.game s) → c.high s k ≤ unit
-      → 10 ^ places * whole s k ≤ den * c.high s k
-  high-most s k inside within small =
-      let P : ℕ → Type 0 = λ n. 10 ^ places * whole s k ≤ den * n in
-      let Q : ℕ → Type 0 = λ n. n ≤ unit in
-      subst P (sym (rounded.high s k inside within))
-      (above-sum (exact.of_state s) (exact.of_choice s k) places den (whole s k) (paid.of_state s inside)
-      (paid.of_choice s k inside within) (paid.total s k inside within)
-      (subst Q (rounded.high s k inside within) small))
-
   right-above : (s k : ℕ) → s < states c.question → k < length (choices_of c.question.game s) → IsRight Upper c s k
       → IsRight Upper finely s k
   right-above s k inside within right =
@@ -106,10 +111,10 @@ module _ (c : Certificate) (exact : ExactRewards) (places den : ℕ) (whole : Re
       let small : c.high s k ≤ unit =
       within-factors (c.high s k) (c.upper s) (choice_of c.question.game s k).total
       (weighted_sum c.upper (choice_of c.question.game s k).edges) unit fits.positive right.1
-      (rounded.upper s inside) in (
+      (units s inside) in (
         right.0,
         covered den c.upper (c.upper s) (c.high s k) (10 ^ places * whole s k) (choice_of c.question.game s k) right.1
-            (high-most s k inside within small),
+            (high-most c exact places den whole paid rounded s k inside within small),
       )
 
   right-below : (s k : ℕ) → s < states c.question → k < length (choices_of c.question.game s) → IsRight Lower c s k
@@ -117,7 +122,7 @@ module _ (c : Certificate) (exact : ExactRewards) (places den : ℕ) (whole : Re
   right-below s k inside within right = elim right [
     | inl away ↦ inl away
     | inr is ↦ inr (pays den c.lower (c.lower s) (c.low s k) (10 ^ places * whole s k) (choice_of c.question.game s k)
-        is (low-least s k inside within))
+        is (low-least c exact places den whole paid rounded s k inside within))
   ]
 
   passed : (part : Part) (s : ℕ) → s < states c.question → IsPassedAt part c s → IsPassedAt part finely s

@@ -1,3 +1,5 @@
 pub mod Digits
 pub mod Rounding
 pub mod Exact
+pub mod Grows
+pub mod Bounds

@@ -1,7 +1,6 @@
 -- This module defines exact rewards, the tables that they are rounded to, and the certificate over exact rewards.
 use Rattle.std.specs.Prelude.{◌≡◌, ℕ, ◌+◌, ◌*◌, ◌^◌, ◌<◌, ◌≤◌, length}
 use Rattle.game_model.specs.Game.{choices_of}
-use Rattle.game_model.specs.Limits.{unit}
 use Rattle.game_model.specs.Query.{Query, states}
 use Rattle.fractions.specs.Fraction.{Fraction, SameValue}
 use Rattle.expected_rewards.specs.Rewards.{Rewards}
@@ -38,7 +37,6 @@ pub record AreRounded (c : Certificate) (exact : ExactRewards) (places : ℕ) : 
       → c.low s k ≡ paid_below exact places s k
   pub high : (s k : ℕ) → s < states c.question → k < length (choices_of c.question.game s)
       → c.high s k ≡ paid_above exact places s k
-  pub upper : (s : ℕ) → s < states c.question → c.upper s ≤ unit
 
 -- This is the certificate over exact rewards, of which `den` numerators are worth one: nothing is rounded any more. It
 -- is in finer units, of which `den` make one unit of the certificate.

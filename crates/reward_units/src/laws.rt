@@ -1,6 +1,8 @@
 //! These are laws of rewards in units. Each function does nothing; its contract is the law.
 
-ghost use Rattle.std.specs.Prelude.{◌≡◌, ℕ, ◌*◌, ◌<◌, false, length, []};
+ghost use Rattle.std.specs.Prelude.{◌≡◌, ℕ, ◌*◌, ◌<◌, ◌≤◌, false, length, []};
+ghost use Rattle.game_model.specs.Game.{choices_of};
+ghost use Rattle.game_model.specs.Limits.{unit};
 ghost use Rattle.game_model.specs.Query.{Query, IsQuery, states, is_dead};
 ghost use Rattle.strategies.specs.Strategies.{Strategy};
 ghost use Rattle.expected_rewards.specs.Rewards.{Rewards, expected};
@@ -28,12 +30,22 @@ pub fn expected_scales()
     expected_grows();
 }
 
+/// If a certificate is sound over rounded rewards, of which none is above 10^15 units, its values bound what the exact
+/// rewards are worth.
+pub fn sound_bounds_are_exact()
+    ensures { (c : Certificate) (exact : ExactRewards) (places den : ℕ) (whole : Rewards) → IsQuery c.question
+        → ArePaid c.question exact den whole → AreRounded c exact places
+        → ((s k : ℕ) → s < states c.question → k < length (choices_of c.question.game s) → c.high s k ≤ unit)
+        → IsSound c → IsSound (exact_of c places den whole) }
+{}
+
 /// If a certificate is accepted over rounded rewards, its values bound what the exact rewards are worth.
 pub fn accepted_bounds_are_exact()
     ensures { (c : Certificate) (exact : ExactRewards) (places den : ℕ) (whole : Rewards) → IsQuery c.question
         → ((s : ℕ) → s < states c.question → is_dead c.question s ≡ false)
         → length c.bounded ≡ states c.question → ArePaid c.question exact den whole
-        → AreRounded c exact places → IsAccepted c → IsSound (exact_of c places den whole) }
+        → AreRounded c exact places → ((s : ℕ) → s < states c.question → c.upper s ≤ unit)
+        → IsAccepted c → IsSound (exact_of c places den whole) }
 {
     accepted_rewards_are_sound();
 }
