@@ -75,8 +75,8 @@ module _ (c : Certificate) (exact : ExactRewards) (places den : ℕ) (whole : Re
   low-least s k inside within =
       let P : ℕ → Type 0 = λ n. den * n ≤ 10 ^ places * whole s k in
       subst P (sym (rounded.low s k inside within))
-      (below-sum (exact.of_state s) (exact.of_choice s k) places den (whole s k) (paid.of_state s inside)
-      (paid.of_choice s k inside within) (paid.total s k inside within))
+      (below-sum (exact.of_state s) (exact.of_choice s k) places den (whole s k) (paid.denominators.of_state s inside)
+      (paid.denominators.of_choice s k inside within) (paid.total s k inside within))
 
   -- what is paid, rounded up, is at least that, if it is not too much for a value
   pub high-most : (s k : ℕ) → s < states c.question → k < length (choices_of c.question.game s) → c.high s k ≤ unit
@@ -85,8 +85,8 @@ module _ (c : Certificate) (exact : ExactRewards) (places den : ℕ) (whole : Re
       let P : ℕ → Type 0 = λ n. 10 ^ places * whole s k ≤ den * n in
       let Q : ℕ → Type 0 = λ n. n ≤ unit in
       subst P (sym (rounded.high s k inside within))
-      (above-sum (exact.of_state s) (exact.of_choice s k) places den (whole s k) (paid.of_state s inside)
-      (paid.of_choice s k inside within) (paid.total s k inside within)
+      (above-sum (exact.of_state s) (exact.of_choice s k) places den (whole s k) (paid.denominators.of_state s inside)
+      (paid.denominators.of_choice s k inside within) (paid.total s k inside within)
       (subst Q (rounded.high s k inside within) small))
 
 module _ (c : Certificate) (exact : ExactRewards) (places den : ℕ) (whole : Rewards) (posed : IsQuery c.question)

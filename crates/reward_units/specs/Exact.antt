@@ -24,10 +24,14 @@ paid_above exact places s c = units_above (exact.of_state s) places + units_abov
 abbrev pub sum_of : Fraction → Fraction → Fraction
 sum_of f g = record { num = f.num * g.den + g.num * f.den; den = f.den * g.den }
 
--- What a turn is paid exactly, by the state and by the choice together, is `whole` over a common denominator.
-pub record ArePaid (q : Query) (exact : ExactRewards) (den : ℕ) (whole : Rewards) : Type 0 where
+-- No denominator is 0.
+pub record HaveDenominators (q : Query) (exact : ExactRewards) : Type 0 where
   pub of_state : (s : ℕ) → s < states q → 1 ≤ (exact.of_state s).den
   pub of_choice : (s c : ℕ) → s < states q → c < length (choices_of q.game s) → 1 ≤ (exact.of_choice s c).den
+
+-- What a turn is paid exactly, by the state and by the choice together, is `whole` over a common denominator.
+pub record ArePaid (q : Query) (exact : ExactRewards) (den : ℕ) (whole : Rewards) : Type 0 where
+  pub denominators : HaveDenominators q exact
   pub total : (s c : ℕ) → s < states q → c < length (choices_of q.game s)
       → SameValue (record { num = whole s c; den = den }) (sum_of (exact.of_state s) (exact.of_choice s c))
 

@@ -1,15 +1,16 @@
 //! These are laws of rewards in units. Each function does nothing; its contract is the law.
 
-ghost use Rattle.std.specs.Prelude.{◌≡◌, ℕ, ◌*◌, ◌<◌, ◌≤◌, false, length, []};
+ghost use Rattle.std.specs.Prelude.{◌≡◌, ℕ, ◌+◌, ◌*◌, ◌^◌, ◌<◌, ◌≤◌, false, length, []};
 ghost use Rattle.game_model.specs.Game.{choices_of};
 ghost use Rattle.game_model.specs.Limits.{unit};
 ghost use Rattle.game_model.specs.Query.{Query, IsQuery, states, is_dead};
+ghost use Rattle.fractions.specs.Fraction.{Fraction, SameValue};
 ghost use Rattle.strategies.specs.Strategies.{Strategy};
 ghost use Rattle.expected_rewards.specs.Rewards.{Rewards, expected};
 ghost use Rattle.reward_check.specs.Certificates.{Certificate, IsSound};
 ghost use Rattle.reward_check.specs.Parts.{IsAccepted};
-ghost use Rattle.reward_units.specs.Units.{most_places, most_units};
-ghost use Rattle.reward_units.specs.Exact.{ExactRewards, ArePaid, AreRounded, exact_of};
+ghost use Rattle.reward_units.specs.Units.{most_places, most_units, units_below, units_above};
+ghost use Rattle.reward_units.specs.Exact.{ExactRewards, HaveDenominators, ArePaid, AreRounded, exact_of};
 
 use crate::limits::{MOST_PLACES, MOST_UNITS};
 use expected_rewards::laws::expected_grows;
@@ -19,6 +20,34 @@ use reward_check::laws::accepted_rewards_are_sound;
 pub fn limits()
     ensures places { MOST_PLACES ≡ most_places }
     ensures units { MOST_UNITS ≡ most_units }
+{}
+
+/// Units that are rounded down are at most the reward. Units that are rounded up are at least the reward, unless they
+/// are too many for a value. They are at most one unit apart, and they are equal if the reward is a whole number of
+/// units.
+pub fn units_bracket_rewards()
+    ensures below { (reward : Fraction) (places : ℕ) →
+        units_below reward places * reward.den ≤ reward.num * 10 ^ places }
+    ensures above { (reward : Fraction) (places : ℕ) → 1 ≤ reward.den → units_above reward places ≤ unit →
+        reward.num * 10 ^ places ≤ units_above reward places * reward.den }
+    ensures order { (reward : Fraction) (places : ℕ) → units_below reward places ≤ units_above reward places }
+    ensures near { (reward : Fraction) (places : ℕ) → units_above reward places ≤ units_below reward places + 1 }
+    ensures equal { (reward : Fraction) (places units : ℕ) → 1 ≤ reward.den
+        → reward.num * 10 ^ places ≡ units * reward.den → units_below reward places ≡ units_above reward places }
+{}
+
+/// Fractions of the same value have the same units, whether in lowest terms or not.
+pub fn units_go_by_value()
+    ensures below { (f g : Fraction) (places : ℕ) → 1 ≤ f.den → 1 ≤ g.den → SameValue f g →
+        units_below f places ≡ units_below g places }
+    ensures above { (f g : Fraction) (places : ℕ) → 1 ≤ f.den → 1 ≤ g.den → SameValue f g →
+        units_above f places ≡ units_above g places }
+{}
+
+/// Exact rewards have a common denominator, over which turns are paid whole numbers.
+pub fn exact_rewards_have_a_denominator()
+    ensures { (q : Query) (exact : ExactRewards) → HaveDenominators q exact →
+        (den : ℕ) × (whole : Rewards) × (1 ≤ den) × ArePaid q exact den whole }
 {}
 
 /// Rewards that are all multiplied by a number give expectations that are multiplied by it.
