@@ -82,14 +82,14 @@ module _ (q : Query) (exact : ExactRewards) (have : HaveDenominators q exact) wh
   wholly = λ s c. (exact.of_state s).num * (common / (exact.of_state s).den)
       + (exact.of_choice s c).num * (common / (exact.of_choice s c).den)
 
-  pub common-denominator : (den : ℕ) × (whole : Rewards) × (1 ≤ den) × ArePaid q exact den whole
+  pub common-denominator : (den : ℕ) × (whole : Rewards) × ArePaid q exact den whole
   unfolding wholly
   common-denominator = (
     common,
     wholly,
-    common-some,
     record {
       denominators = have;
+      positive = common-some;
       total = λ s c inside within.
           sum-factors (exact.of_state s).num (exact.of_state s).den (exact.of_choice s c).num
           (exact.of_choice s c).den common (common / (exact.of_state s).den) (common / (exact.of_choice s c).den)

@@ -16,7 +16,7 @@ use Rattle.reward_check.specs.declared.parts.Part.{Part}
 use Rattle.reward_check.specs.declared.parts.Part.TheVariants.{Upper, Ranks, Lower, Infinite}
 use Rattle.reward_check.specs.Certificates.{Certificate}
 use Rattle.reward_check.specs.Parts.{HasZeros, LooksAt, IsTaken, IsRight, IsPassedAt, IsAccepted}
-use Rattle.reward_units.specs.Exact.{ExactRewards, ArePaid, AreRounded, exact_of}
+use Rattle.reward_units.specs.Exact.{ExactRewards, ArePaid, AreRounded, HaveValues, exact_of}
 use Rattle.reward_units.proofs.Rounding.{below-sum, above-sum}
 
 -- an average over entries in finer units
@@ -53,7 +53,7 @@ pays d lower entry low paid m is more =
     more (coarser d lower m.edges)
 
 -- a reward that an entry covers is at most the entry
-within-factors : (high entry t w most : ℕ) → 0 < t → high * t + w ≤ entry * t → entry ≤ most → high ≤ most
+pub within-factors : (high entry t w most : ℕ) → 0 < t → high * t + w ≤ entry * t → entry ≤ most → high ≤ most
 within-factors high entry t w most some is small =
     let at : high * t ≤ entry * t = omega (arith, is) in
     let less : high ≤ entry = le_of_mul-le-mul_right {k = t} at some in omega (arith, less, small)
@@ -91,7 +91,7 @@ module _ (c : Certificate) (exact : ExactRewards) (places den : ℕ) (whole : Re
 
 module _ (c : Certificate) (exact : ExactRewards) (places den : ℕ) (whole : Rewards) (posed : IsQuery c.question)
     (paid : ArePaid c.question exact den whole) (rounded : AreRounded c exact places)
-    (units : (s : ℕ) → s < states c.question → c.upper s ≤ unit) where
+    (values : HaveValues c) where
   abbrev finely : Certificate
   finely = exact_of c places den whole
 
@@ -111,7 +111,7 @@ module _ (c : Certificate) (exact : ExactRewards) (places den : ℕ) (whole : Re
       let small : c.high s k ≤ unit =
       within-factors (c.high s k) (c.upper s) (choice_of c.question.game s k).total
       (weighted_sum c.upper (choice_of c.question.game s k).edges) unit fits.positive right.1
-      (units s inside) in (
+      (values.upper s inside) in (
         right.0,
         covered den c.upper (c.upper s) (c.high s k) (10 ^ places * whole s k) (choice_of c.question.game s k) right.1
             (high-most c exact places den whole paid rounded s k inside within small),

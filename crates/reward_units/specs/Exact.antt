@@ -1,11 +1,12 @@
 -- This module defines exact rewards, the tables that they are rounded to, and the certificate over exact rewards.
 use Rattle.std.specs.Prelude.{◌≡◌, ℕ, ◌+◌, ◌*◌, ◌^◌, ◌<◌, ◌≤◌, length}
 use Rattle.game_model.specs.Game.{choices_of}
+use Rattle.game_model.specs.Limits.{unit}
 use Rattle.game_model.specs.Query.{Query, states}
 use Rattle.fractions.specs.Fraction.{Fraction, SameValue}
 use Rattle.expected_rewards.specs.Rewards.{Rewards}
 use Rattle.reward_check.specs.Certificates.{Certificate}
-use Rattle.reward_units.specs.Units.{units_below, units_above}
+use Rattle.reward_units.specs.Units.{all_below, all_above, units_below, units_above}
 
 -- Each state has an exact reward, and so has each of its choices.
 pub record ExactRewards : Type 0 where
@@ -32,6 +33,7 @@ pub record HaveDenominators (q : Query) (exact : ExactRewards) : Type 0 where
 -- What a turn is paid exactly, by the state and by the choice together, is `whole` over a common denominator.
 pub record ArePaid (q : Query) (exact : ExactRewards) (den : ℕ) (whole : Rewards) : Type 0 where
   pub denominators : HaveDenominators q exact
+  pub positive : 1 ≤ den
   pub total : (s c : ℕ) → s < states q → c < length (choices_of q.game s)
       → SameValue (record { num = whole s c; den = den }) (sum_of (exact.of_state s) (exact.of_choice s c))
 
@@ -41,6 +43,18 @@ pub record AreRounded (c : Certificate) (exact : ExactRewards) (places : ℕ) : 
       → c.low s k ≡ paid_below exact places s k
   pub high : (s k : ℕ) → s < states c.question → k < length (choices_of c.question.game s)
       → c.high s k ≡ paid_above exact places s k
+
+-- No value is above 10^15 units.
+pub record HaveValues (c : Certificate) : Type 0 where
+  pub lower : (s : ℕ) → s < states c.question → c.lower s ≤ unit
+  pub upper : (s : ℕ) → s < states c.question → c.upper s ≤ unit
+
+-- This is the certificate over rewards that are rounded to units, however many they are.
+abbrev pub uncapped : Certificate → ExactRewards → ℕ → Certificate
+uncapped c exact places = record c {
+  low = λ s k. all_below (exact.of_state s) places + all_below (exact.of_choice s k) places;
+  high = λ s k. all_above (exact.of_state s) places + all_above (exact.of_choice s k) places;
+}
 
 -- This is the certificate over exact rewards, of which `den` numerators are worth one: nothing is rounded any more. It
 -- is in finer units, of which `den` make one unit of the certificate.

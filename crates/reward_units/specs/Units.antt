@@ -17,10 +17,18 @@ most_units = unit + 1
 abbrev pub capped : ℕ → ℕ
 capped units = min units most_units
 
--- This is the number of units of an exact reward, rounded down.
-abbrev pub units_below : Fraction → ℕ → ℕ
-units_below reward places = capped (reward.num * 10 ^ places / reward.den)
+-- This is the number of units of an exact reward, rounded down, however many they are.
+abbrev pub all_below : Fraction → ℕ → ℕ
+all_below reward places = reward.num * 10 ^ places / reward.den
 
--- This is the number of units of an exact reward, rounded up.
+-- This is the number of units of an exact reward, rounded up, however many they are.
+abbrev pub all_above : Fraction → ℕ → ℕ
+all_above reward places = div_ceil (reward.num * 10 ^ places) reward.den
+
+-- This is the number of units of an exact reward, rounded down, as a table has it.
+abbrev pub units_below : Fraction → ℕ → ℕ
+units_below reward places = capped (all_below reward places)
+
+-- This is the number of units of an exact reward, rounded up, as a table has it.
 abbrev pub units_above : Fraction → ℕ → ℕ
-units_above reward places = capped (div_ceil (reward.num * 10 ^ places) reward.den)
+units_above reward places = capped (all_above reward places)

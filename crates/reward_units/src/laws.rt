@@ -1,6 +1,6 @@
 //! These are laws of rewards in units. Each function does nothing; its contract is the law.
 
-ghost use Rattle.std.specs.Prelude.{◌≡◌, ℕ, ◌+◌, ◌*◌, ◌^◌, ◌<◌, ◌≤◌, false, length, []};
+ghost use Rattle.std.specs.Prelude.{◌≡◌, ℕ, ◌+◌, ◌*◌, ◌^◌, ◌<◌, ◌≤◌, ◌↔◌, false, length, []};
 ghost use Rattle.game_model.specs.Game.{choices_of};
 ghost use Rattle.game_model.specs.Limits.{unit};
 ghost use Rattle.game_model.specs.Query.{Query, IsQuery, states, is_dead};
@@ -10,7 +10,8 @@ ghost use Rattle.expected_rewards.specs.Rewards.{Rewards, expected};
 ghost use Rattle.reward_check.specs.Certificates.{Certificate, IsSound};
 ghost use Rattle.reward_check.specs.Parts.{IsAccepted};
 ghost use Rattle.reward_units.specs.Units.{most_places, most_units, units_below, units_above};
-ghost use Rattle.reward_units.specs.Exact.{ExactRewards, HaveDenominators, ArePaid, AreRounded, exact_of};
+ghost use Rattle.reward_units.specs.Exact.{ExactRewards, HaveDenominators, ArePaid, AreRounded, HaveValues};
+ghost use Rattle.reward_units.specs.Exact.{uncapped, exact_of};
 
 use crate::limits::{MOST_PLACES, MOST_UNITS};
 use expected_rewards::laws::expected_grows;
@@ -44,10 +45,11 @@ pub fn units_go_by_value()
         units_above f places ≡ units_above g places }
 {}
 
-/// Exact rewards have a common denominator, over which turns are paid whole numbers.
+/// Exact rewards have a common denominator, over which each turn is paid a whole number. So the laws that ask for one
+/// speak of all exact rewards.
 pub fn exact_rewards_have_a_denominator()
     ensures { (q : Query) (exact : ExactRewards) → HaveDenominators q exact →
-        (den : ℕ) × (whole : Rewards) × (1 ≤ den) × ArePaid q exact den whole }
+        (den : ℕ) × (whole : Rewards) × ArePaid q exact den whole }
 {}
 
 /// Rewards that are all multiplied by a number give expectations that are multiplied by it.
@@ -59,8 +61,16 @@ pub fn expected_scales()
     expected_grows();
 }
 
-/// If a certificate is sound over rounded rewards, of which none is above 10^15 units, its values bound what the exact
-/// rewards are worth.
+/// A certificate is accepted over the units of a table exactly if it is accepted over all units, however many: so a
+/// choice that pays more than 10^15 units pays every lower value, and no upper value covers it.
+pub fn caps_change_nothing()
+    ensures { (c : Certificate) (exact : ExactRewards) (places : ℕ) → IsQuery c.question → AreRounded c exact places
+        → HaveValues c → IsAccepted c ↔ IsAccepted (uncapped c exact places) }
+{}
+
+/// A sound certificate over rounded rewards is sound over the exact ones, if no choice pays more than 10^15 units when
+/// its rewards are rounded up. `exact_of` has the same plans, and the same values in finer units, so nothing is rounded
+/// any more. Nothing is said about how near the values come to what the exact rewards are worth.
 pub fn sound_bounds_are_exact()
     ensures { (c : Certificate) (exact : ExactRewards) (places den : ℕ) (whole : Rewards) → IsQuery c.question
         → ArePaid c.question exact den whole → AreRounded c exact places
@@ -68,13 +78,14 @@ pub fn sound_bounds_are_exact()
         → IsSound c → IsSound (exact_of c places den whole) }
 {}
 
-/// If a certificate is accepted over rounded rewards, its values bound what the exact rewards are worth.
+/// An accepted certificate over rounded rewards is sound over the exact ones, however great these are. It has to be
+/// accepted, since a certificate can be sound although a play comes, with a small probability, from a state with an
+/// upper value to a choice that pays more than 10^15 units. The rounded rewards then count too little.
 pub fn accepted_bounds_are_exact()
     ensures { (c : Certificate) (exact : ExactRewards) (places den : ℕ) (whole : Rewards) → IsQuery c.question
         → ((s : ℕ) → s < states c.question → is_dead c.question s ≡ false)
         → length c.bounded ≡ states c.question → ArePaid c.question exact den whole
-        → AreRounded c exact places → ((s : ℕ) → s < states c.question → c.upper s ≤ unit)
-        → IsAccepted c → IsSound (exact_of c places den whole) }
+        → AreRounded c exact places → HaveValues c → IsAccepted c → IsSound (exact_of c places den whole) }
 {
     accepted_rewards_are_sound();
 }

@@ -1,6 +1,7 @@
 //! This module gives an exact reward in units.
 
-ghost use Rattle.std.specs.Prelude.{◌≡◌, ◌<◌, ◌≤◌, ◌^◌};
+ghost use Rattle.std.specs.Prelude.{◌≡◌, ◌≤◌};
+ghost use Rattle.fractions.specs.Limits.{finest};
 ghost use Rattle.reward_units.specs.Units.{most_places, units_below, units_above, capped};
 
 use crate::division::divide;
@@ -10,7 +11,7 @@ use game_model::UNIT;
 /// Returns the units of an exact reward, rounded down. The reward is this numerator over this denominator.
 pub fn units_below(num: u128, den: u128, places: u32) -> u64
     requires divided { 1 ≤ den }
-    requires narrow { den < 2 ^ 124 }
+    requires fine { den ≤ finest }
     requires places { places ≤ most_places }
     ensures { result ≡ units_below (record { num = num; den = den }) places }
 {
@@ -23,7 +24,7 @@ pub fn units_below(num: u128, den: u128, places: u32) -> u64
 /// Returns the units of an exact reward, rounded up. The reward is this numerator over this denominator.
 pub fn units_above(num: u128, den: u128, places: u32) -> u64
     requires divided { 1 ≤ den }
-    requires narrow { den < 2 ^ 124 }
+    requires fine { den ≤ finest }
     requires places { places ≤ most_places }
     ensures { result ≡ units_above (record { num = num; den = den }) places }
 {

@@ -1,5 +1,5 @@
 use Rattle.std.proofs.Common.{arith}
-use Rattle.reward_units.proofs.Digits.{too-many-below}
+use Rattle.reward_units.proofs.Places.{too-many-below}
 use Rattle.reward_units.proofs.units.units_below.Goals as goal
 
 pub returns-then-num-den : goal.returns-then-num-den
