@@ -1,12 +1,12 @@
 -- What is accepted over the units of a table is accepted over all units, and the other way round.
 use Rattle.std.proofs.Common.{◌≡◌, ℕ, ◌+◌, ◌*◌, ◌<◌, ◌≤◌, ◌↔◌, min, length, arith, subst, sym, inl, inr}
-use Rattle.std.proofs.Math.Nat.{mul-le-mul_left}
+use Rattle.std.proofs.Math.Nat.{mul-le-mul_left, le_of_mul-le-mul_right}
 use Rattle.std.proofs.lemmas.Bool.{cases_lt}
 use Rattle.game_model.specs.Game.{Distribution, choices_of, choice_of}
 use Rattle.game_model.specs.Limits.{unit}
 use Rattle.game_model.specs.Query.{IsQuery, states}
 use Rattle.game_model.specs.Values.{weighted_sum}
-use Rattle.game_model.proofs.Choices.{IsChoiceOf, IsChoiceOf-choice_of}
+use Rattle.game_model.proofs.Choices.{IsChoiceOf-choice_of}
 use Rattle.expected_rewards.specs.Rewards.{Rewards}
 use Rattle.expected_rewards.specs.Tables.{IsCovered, IsPaid}
 use Rattle.reward_check.specs.declared.parts.Part.{Part}
@@ -14,8 +14,7 @@ use Rattle.reward_check.specs.declared.parts.Part.TheVariants.{Upper, Ranks, Low
 use Rattle.reward_check.specs.Certificates.{Certificate}
 use Rattle.reward_check.specs.Parts.{IsRight, IsPassedAt, IsAccepted}
 use Rattle.reward_units.specs.Units.{most_units, capped, all_below, all_above}
-use Rattle.reward_units.specs.Exact.{ExactRewards, AreRounded, HaveValues, paid_below, paid_above, uncapped}
-use Rattle.reward_units.proofs.Exact.{within-factors}
+use Rattle.reward_units.specs.Exact.{ExactRewards, AreRounded, HaveValues, uncapped}
 
 -- two certificates that differ in their rewards alone
 module _ (c : Certificate) (low high : Rewards)
@@ -54,16 +53,18 @@ module _ (c : Certificate) (low high : Rewards)
   }
 
 -- rewards with caps are at most those without
-capped-sum : (x y most : ℕ) → min x most + min y most ≤ x + y
+pub capped-sum : (x y most : ℕ) → min x most + min y most ≤ x + y
 capped-sum x y most = omega arith
 
 -- they are the same if the sum is small
-small-sum : (x y most sum : ℕ) → sum ≡ min x most + min y most → sum < most → sum ≡ x + y
+pub small-sum : (x y most sum : ℕ) → sum ≡ min x most + min y most → sum < most → sum ≡ x + y
 small-sum x y most sum is small = omega (arith, is, small)
 
--- either they are the same, or their sum is too great
-great-sum : (x y most : ℕ) → min x most + min y most < most → min x most + min y most ≡ x + y
-great-sum x y most small = omega (arith, small)
+-- a reward that an entry covers is at most the entry
+within-factors : (high entry t w most : ℕ) → 0 < t → high * t + w ≤ entry * t → entry ≤ most → high ≤ most
+within-factors high entry t w most some is small =
+    let at : high * t ≤ entry * t = omega (arith, is) in
+    let less : high ≤ entry = le_of_mul-le-mul_right {k = t} at some in omega (arith, less, small)
 
 covered-less : (high more t w entry : ℕ) → high ≤ more → more * t + w ≤ entry * t → high * t + w ≤ entry * t
 covered-less high more t w entry less is = omega (arith, mul-le-mul_left t less, is)

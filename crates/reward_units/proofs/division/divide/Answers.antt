@@ -1,4 +1,4 @@
-use Rattle.std.proofs.Common.{◌≡◌, ◌+◌, ◌*◌, ◌/◌, ◌%◌, ◌^◌, ◌<◌, ◌≤◌, arith, ap, ◌∙◌}
+use Rattle.std.proofs.Common.{◌*◌, ◌^◌, ◌≤◌, arith, ap, ◌∙◌}
 use Rattle.std.proofs.Math.Nat.{one-le-pow}
 use Rattle.reward_units.proofs.Places.{power-most, whole-most, part-most, units-fit, parts-whole}
 use Rattle.reward_units.proofs.division.divide.Goals as goal
