@@ -16,9 +16,11 @@ use Rattle.reward_units.proofs.Capped.{capped-sum, small-sum}
 use Rattle.reward_units.proofs.Grows.{grows-inside}
 use Rattle.reward_units.proofs.Rounding.{below-sum, above-sum}
 
+-- an upper bound in finer units, over smaller rewards
 hold-factors : (d e high upper ways : ℕ) → 1 * e ≤ d * high → high ≤ upper * ways → e ≤ d * upper * ways
 hold-factors d e high upper ways grown held = omega (arith, grown, mul-le-mul_left d held)
 
+-- a lower bound in finer units, over greater rewards
 assure-factors : (d e low lower ways most won : ℕ) → d * low ≤ 1 * e → lower * ways + most * won ≤ low + most * ways
     → d * lower * ways + d * most * won ≤ e + d * most * ways
 assure-factors d e low lower ways most won grown assured = omega (arith, grown, mul-le-mul_left d assured)

@@ -66,12 +66,15 @@ within-factors high entry t w most some is small =
     let at : high * t ≤ entry * t = omega (arith, is) in
     let less : high ≤ entry = le_of_mul-le-mul_right {k = t} at some in omega (arith, less, small)
 
+-- a smaller reward is covered too
 covered-less : (high more t w entry : ℕ) → high ≤ more → more * t + w ≤ entry * t → high * t + w ≤ entry * t
 covered-less high more t w entry less is = omega (arith, mul-le-mul_left t less, is)
 
+-- a greater reward pays too
 paid-more : (low more t w entry : ℕ) → low ≤ more → entry * t ≤ low * t + w → entry * t ≤ more * t + w
 paid-more low more t w entry less is = omega (arith, mul-le-mul_left t less, is)
 
+-- a reward that is at least the entry pays by itself
 paid-great : (low t w entry : ℕ) → entry ≤ low → entry * t ≤ low * t + w
 paid-great low t w entry less = omega (arith, mul-le-mul_left t less)
 

@@ -12,11 +12,13 @@ use Rattle.strategies.specs.Strategies.{Turn, Strategy, IsStrategyOf, of_side}
 use Rattle.strategies.proofs.Turns.{marked-le, of_side-inside, worth-le}
 use Rattle.expected_rewards.specs.Rewards.{Rewards, expected}
 
+-- the sum over the faces of a die
 sums-grow : (a b : ℕ) (f g : ℕ → ℕ) (xs : List ℕ) → ((x : ℕ) → a * f x ≤ b * g x) → a * sum_by f xs ≤ b * sum_by g xs
 sums-grow a b f g [] h = omega arith
 sums-grow a b f g (x ∷ xs) h =
     rw (sum_by-cons f x xs, sum_by-cons g x xs) (omega (arith, sums-grow a b f g xs h, h x))
 
+-- what one turn pays, and what is expected after it
 turn-factors : (a b d r r' v v' : ℕ) → a * r ≤ b * r' → a * v ≤ b * v' → a * (r * d + v) ≤ b * (r' * d + v')
 turn-factors a b d r r' v v' h k = omega (arith, mul-le-mul_left d h, k)
 

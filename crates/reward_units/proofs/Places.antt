@@ -7,6 +7,7 @@ use Rattle.game_model.specs.Limits.{unit}
 use Rattle.fractions.specs.Limits.{finest}
 use Rattle.reward_units.specs.Units.{most_places, most_units, capped}
 
+-- a unit has at most fifteen places
 pub power-most : (places : ℕ) → places ≤ most_places → 10 ^ places ≤ 10 ^ 15
 power-most places few = pow-le-pow_right {n = 10} (omega arith) {i = places} {j = 15} few
 
@@ -22,12 +23,13 @@ part-most num den power some fine few =
     mul-le (num % den) power finest (10 ^ 15) (omega (arith, some, fine)) few
 
 -- the rest gives less than one whole part
-pub part-below : (num den power : ℕ) → 1 ≤ den → 1 ≤ power → num % den * power / den < power
+part-below : (num den power : ℕ) → 1 ≤ den → 1 ≤ power → num % den * power / den < power
 part-below num den power some more =
     let rest : num % den + 1 ≤ den = omega (arith, some) in
     div_below (num % den * power) den power some
     (omega (arith, mul-le-mul_left power rest, more))
 
+-- the whole part is below one more than a value, and so are both parts together
 pub units-fit : (num den power : ℕ) → num < (unit + 1) * den → 1 ≤ power
     → num / den * power + num % den * power / den < (unit + 1) * power
 units-fit num den power small more =
@@ -43,7 +45,7 @@ parts-whole num den power =
     omega (arith, div-add-mod' (num % den * power) den, power-of)
 
 -- a whole part that is too great for a value stays so with more places
-pub still-more : (num den places : ℕ) → 1 ≤ den → unit < num / den → unit < num * 10 ^ places / den
+still-more : (num den places : ℕ) → 1 ≤ den → unit < num / den → unit < num * 10 ^ places / den
 still-more num den places some more =
     let power : 1 ≤ 10 ^ places = one-le-pow places 10 (omega arith) in
     let less : num / den * den ≤ num * 10 ^ places =
@@ -51,6 +53,7 @@ still-more num den places some more =
     let whole : num / den ≤ num * 10 ^ places / den = le-div (num / den) (num * 10 ^ places) den some less in
     omega (arith, whole, more)
 
+-- as many units as that, or more
 capped-more : (n m : ℕ) → unit < n → n ≤ m → most_units ≡ capped m
 capped-more n m more less = omega (arith, more, less)
 
@@ -58,11 +61,10 @@ capped-more n m more less = omega (arith, more, less)
 pub too-many-below : (num den places : ℕ) → 1 ≤ den → unit < num / den
     → most_units ≡ capped (num * 10 ^ places / den)
 too-many-below num den places some more =
-    let less : num * 10 ^ places / den ≤ num * 10 ^ places / den = omega arith in
-    capped-more (num * 10 ^ places / den) (num * 10 ^ places / den) (still-more num den places some more) less
+    capped-more (num * 10 ^ places / den) (num * 10 ^ places / den) (still-more num den places some more) (omega arith)
 
 pub too-many-above : (num den places : ℕ) → 1 ≤ den → unit < num / den
     → most_units ≡ capped (div_ceil (num * 10 ^ places) den)
 too-many-above num den places some more =
-    let less : num * 10 ^ places / den ≤ div_ceil (num * 10 ^ places) den = omega arith in
-    capped-more (num * 10 ^ places / den) (div_ceil (num * 10 ^ places) den) (still-more num den places some more) less
+    capped-more (num * 10 ^ places / den) (div_ceil (num * 10 ^ places) den) (still-more num den places some more)
+    (omega arith)

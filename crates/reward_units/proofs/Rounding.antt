@@ -7,9 +7,11 @@ use Rattle.fractions.specs.Fraction.{Fraction, SameValue}
 use Rattle.reward_units.specs.Units.{most_units, all_below, all_above, units_below, units_above}
 use Rattle.reward_units.specs.Exact.{sum_of}
 
+-- all units, rounded down, are at most the reward
 all-below-times : (f : Fraction) (places : ℕ) → all_below f places * f.den ≤ f.num * 10 ^ places
 all-below-times f places = div-mul-le_self (f.num * 10 ^ places) f.den
 
+-- all units, rounded up, are at least the reward
 all-above-times : (f : Fraction) (places : ℕ) → 1 ≤ f.den → f.num * 10 ^ places ≤ all_above f places * f.den
 all-above-times f places some = (div_ceil_times (f.num * 10 ^ places) f.den some).0
 
