@@ -34,7 +34,8 @@ module _ (q : Query) (posed : IsQuery q) (rewards more : Rewards) (a b faces : �
       marked-le (is_goal q s) (is_dead q s) a b 0 0 _ _ none
       (sums-grow a b _ _ (range_with_len 0 faces) (λ throw.
       let choice : ℕ = of_side (side_at q s) greatest least past s throw in
-      let turn : Turn = record { state = s; throw = throw; choice = of_side (side_at q s) greatest least past s throw } in
+      let turn : Turn =
+      record { state = s; throw = throw; choice = of_side (side_at q s) greatest least past s throw } in
       let within : of_side (side_at q s) greatest least past s throw < length (choices_of q.game s) =
       of_side-inside q greatest least up down past s throw inside (side_at q s) refl in
       turn-factors a b (denominator q.game * (faces * denominator q.game) ^ k) (rewards s choice) (more s choice) _ _

@@ -56,8 +56,8 @@ uncapped c exact places = record c {
   high = λ s k. all_above (exact.of_state s) places + all_above (exact.of_choice s k) places;
 }
 
--- This is the certificate over the exact rewards, which are `whole` over `den`. It is in finer units, of which `den` make
--- one unit of so many places, so that nothing is rounded any more.
+-- This is the certificate over the exact rewards, which are `whole` over `den`. It is in finer units, of which `den`
+-- make one unit of so many places, so that nothing is rounded any more.
 abbrev pub exact_of : Certificate → ℕ → ℕ → Rewards → Certificate
 exact_of c places den whole = record c {
   low = λ s k. 10 ^ places * whole s k;
