@@ -5,7 +5,6 @@ import io
 import os
 import random
 import re
-import sys
 import unittest
 from fractions import Fraction
 from pathlib import Path
@@ -23,10 +22,8 @@ from gallery.table import contents, joined, read_lines, write_lines, write_markd
 from toolbox.drawn import drawn_game, drawn_question, drawn_values, fault_of, stays_open
 from toolbox.exact import exact_values, plain_value_iteration
 from toolbox.model import CLOSED, HALF, Model, ask, spelt, sure
-from toolbox.programs import ROOT, bracket_of
+from toolbox.programs import bracket_of
 from toolbox.testing import InFolder
-
-sys.path.insert(0, str(ROOT / "gallery" / "trials"))
 
 import stiff
 
@@ -312,9 +309,7 @@ class Solving(InFolder):
 
     def setUp(self):
         super().setUp()
-        around = mock.patch.dict(os.environ, STOGAME=self.write_command(MADE_UP))
-        around.start()
-        self.addCleanup(around.stop)
+        self.start(mock.patch.dict(os.environ, STOGAME=self.write_command(MADE_UP)))
 
     def answer(self, line, audit, question=ask("Pmax=?", "goal"), value=HALF):
         os.environ.update(LINE=line, AUDIT=audit)

@@ -191,7 +191,7 @@ def weights_of(fractions):
 
 
 class Model:
-    """A Markov decision process in flat lists."""
+    """A Markov decision process in flat lists; `weights` has those of each choice by its edges, and their total."""
 
     def __init__(self):
         self.choice_start = array("i", [0])
@@ -206,12 +206,8 @@ class Model:
     def choices_of(self, state):
         return range(self.choice_start[state], self.choice_start[state + 1])
 
-    def edges_of(self, choice):
-        return range(self.edge_start[choice], self.edge_start[choice + 1])
-
-    def weighted(self, choice):
-        """The exact weights of a choice, in the order of its edges, and their total."""
-        return self.weights[choice]
+    def successors(self, choice):
+        return self.successor[self.edge_start[choice] : self.edge_start[choice + 1]]
 
     def add_choice(self, successors, weighted):
         """Adds a choice of the state under way, with its weights and their total."""

@@ -1,4 +1,4 @@
-"""What the tests share: folders, runs of tools as commands and within their own process, and certificates to try."""
+"""Tests share these folders, these ways to run a tool (as a command, or in this process) and these certificates."""
 
 import contextlib
 import importlib.util
@@ -18,7 +18,19 @@ from toolbox.programs import BUILT, ROOT, program, run
 
 TOOLS, EXAMPLES, MODELS = ROOT / "tools", ROOT / "examples", ROOT / "gallery" / "models"
 SAMPLES = TOOLS / "samples"
+# Tests use what the trials draw and damage.
+sys.path.append(str(ROOT / "gallery" / "trials"))
 ROUNDS = "300"
+
+# These are the files of the game of two players, the usual question about it, and the certificate for that question.
+GAME = [str(EXAMPLES / f"two_players.{ending}") for ending in ("tra", "lab", "own")]
+FORMULA = '<<p1>> P>=0.6 [ F "goal" ]'
+CERTIFICATE = """certificate 2 4
+0 0.650000000000000 1 1 0.650000000000000 -
+1 0.200000000000000 - 1 0.200000000000000 1
+2 1.000000000000000 - 0 1.000000000000000 -
+3 0.000000000000000 - 0 0.000000000000000 -
+"""
 
 has_program = os.access(os.environ.get("STOGAME") or BUILT, os.X_OK)
 needs_program = unittest.skipUnless(has_program, "no built program: build it, or name one by STOGAME")
@@ -30,7 +42,7 @@ def run_tool(name, *words):
 
 @lru_cache(maxsize=None)
 def load(name):
-    """A command as a module."""
+    """Loads a command as a module."""
     loader = SourceFileLoader(name, str(TOOLS / name))
     spec = importlib.util.spec_from_loader(name, loader)
     module = importlib.util.module_from_spec(spec)
@@ -39,8 +51,8 @@ def load(name):
 
 
 def call_tool(name, *words):
-    """Runs a tool that ends by `ended` in this process, and gives its status, output and errors. A thousand such calls
-    take seconds, and not minutes."""
+    """Runs a tool in this process and returns its status, output and errors. The tool has to end by `ended`. A thousand
+    such calls take seconds instead of minutes."""
     output, errors = io.StringIO(), io.StringIO()
     asked = mock.patch.object(sys, "argv", [name, *map(str, words)])
     with asked, contextlib.redirect_stdout(output), contextlib.redirect_stderr(errors):
@@ -52,12 +64,17 @@ def call_tool(name, *words):
 
 
 class InFolder(unittest.TestCase):
-    """A test with a folder of its own."""
+    """Each test has a folder of its own."""
 
     def setUp(self):
         folder = tempfile.TemporaryDirectory()
         self.addCleanup(folder.cleanup)
         self.folder = Path(folder.name)
+
+    def start(self, patch):
+        """Starts a patch, which lasts until the test ends."""
+        patch.start()
+        self.addCleanup(patch.stop)
 
     def write(self, name, text):
         path = self.folder / name
@@ -65,17 +82,17 @@ class InFolder(unittest.TestCase):
         return path
 
     def write_command(self, text):
-        """Writes a program that is made up."""
+        """Writes a made-up program and makes it executable."""
         path = self.write("program", text)
         path.chmod(0o755)
         return str(path)
 
     def written(self):
-        """The texts of the files of the folder, by name."""
+        """Returns the texts of all files in the folder, by name."""
         return {path.name: path.read_text(encoding="ascii") for path in self.folder.iterdir()}
 
     def answered(self, line, *words):
-        """Requires that the program answers a question with a line that begins so."""
+        """Requires that the program answers a question, and that its output begins with this line."""
         status, output, errors = run(program(), "check", *words)
         self.assertEqual((status, errors), (0, ""), output)
         self.assertTrue(output.startswith(line), output)
@@ -88,8 +105,8 @@ class InFolder(unittest.TestCase):
 
 
 class Certified:
-    """A question about a model; with the text of its certificate, made where it is asked for,
-    and its entries as fields."""
+    """This is a question about a model. Its certificate is made when it is first asked for; `entries` has the fields of
+    each line."""
 
     def __init__(self, name, words, model, question):
         self.name, self.words, self.model, self.question = name, words, model, question
@@ -100,7 +117,7 @@ class Certified:
 
     @cached_property
     def start(self):
-        """The place of the certificate among the lines."""
+        """Returns the number of lines before the certificate."""
         return next(number for number, line in enumerate(self.text.splitlines()) if line.startswith("certificate "))
 
     @property
@@ -112,7 +129,7 @@ class Certified:
         return self.text.splitlines()[self.start - 1].split(" ", 1)[1]
 
     def files(self):
-        """The words of a tool that takes the files by name."""
+        """Returns the words for a tool that takes the files as options."""
         tra, lab, _, *own = self.words
         return ["--tra", tra, "--lab", lab, *own]
 
@@ -122,18 +139,18 @@ class Certified:
 
 @lru_cache(maxsize=None)
 def certified_questions():
-    """All questions of `check` that a certificate may be of, in the order of the models."""
+    """Returns all questions of `check` that can have a certificate, in the order of the models."""
     return [one for one in plain_questions() if one.question.horizon() is None]
 
 
 def stepped_questions():
-    """All questions of `check` with a bound on the steps and no formula inside: the model's name, and the words."""
+    """Returns the model's name and the words of each question of `check` with bounded steps and no formula inside."""
     return [(one.name, one.words) for one in plain_questions() if one.question.horizon() is not None]
 
 
 @lru_cache(maxsize=None)
 def plain_questions():
-    """All questions of `check` with no formula inside, in the order of the models."""
+    """Returns all questions of `check` with no formula inside, in the order of the models."""
     found = []
     for name, module, sizes in instances("small"):
         model, own = module.model(*sizes), MODELS / f"{name}.own"
@@ -146,7 +163,7 @@ def plain_questions():
 
 
 def certified_models():
-    """The first of these questions about each model."""
+    """Returns the first question about each model that can have a certificate."""
     first = {}
     for one in certified_questions():
         first.setdefault(one.name, one)

@@ -10,11 +10,9 @@ from unittest import mock
 from tools.test_reaudit import call
 from toolbox import evidence, programs
 from toolbox.formulas import Reader
-from toolbox.testing import EXAMPLES, TOOLS, InFolder, call_tool, load, needs_program, program, run
+from toolbox.testing import FORMULA, GAME, TOOLS, InFolder, call_tool, load, needs_program, program, run
 
-FORMULA = '<<p1>> P>=0.6 [ F "goal" ]'
-
-# a formula and its sentence
+# Each row has a formula and its sentence.
 SENTENCES = [
     ('Pmax=? [ F "goal" ]', 'What is the greatest probability, over all strategies, that at some time "goal" holds?'),
     ('Pmin=? [ G !"bad" ]',
@@ -49,27 +47,30 @@ class Sentences(unittest.TestCase):
 
 
 def hashed(text):
-    """A dossier whose second line has the hash of what follows."""
+    """Returns the dossier with the hash of what follows in its second line."""
     first, _, body = text.split("\n", 2)
     return f"{first}\n{load('dossier').second_line(body)}\n{body}"
 
 
 def second_here(question, *certificate):
-    """The run of the second audit, made in this process."""
+    """Runs the second audit in this process."""
     return programs.Ended(*call(*question[:3], *certificate, *question[3:]))
 
 
-@needs_program
-class Dossiers(InFolder):
+class Judged(InFolder):
+    """For tests of dossiers the second audit runs in this process."""
+
     def setUp(self):
         super().setUp()
         os.environ["STOGAME"] = str(program())
-        here = mock.patch.object(evidence, "second_of", second_here)
-        here.start()
-        self.addCleanup(here.stop)
-        for ending in ("tra", "lab", "own"):
-            shutil.copy(EXAMPLES / f"two_players.{ending}", self.folder)
-        self.files = [str(self.folder / f"two_players.{ending}") for ending in ("tra", "lab", "own")]
+        self.start(mock.patch.object(evidence, "second_of", second_here))
+
+
+@needs_program
+class Dossiers(Judged):
+    def setUp(self):
+        super().setUp()
+        self.files = [shutil.copy(name, self.folder) for name in GAME]
         self.words = [*self.files[:2], FORMULA, "--own", self.files[2]]
         self.text = call_tool("dossier", *self.words)[1]
         self.name = str(self.write("dossier", self.text))
@@ -109,7 +110,7 @@ class Dossiers(InFolder):
             self.assertEqual(dossier.program_file(), dossier.programs.BUILT)
 
     def test_the_logic_of_the_kit(self):
-        """It is compared where both are known; commit, state and the kit's name are recorded alone."""
+        """The logic is compared if both are known; commit, state and the kit's name are only recorded."""
         start = self.text.index("\nsources ")
         for filed, today, status, said in (
             ("kit 1 logic ab", "kit 2 logic ab", 0, "the kit's logic is the same"),

@@ -1,4 +1,4 @@
-"""Dossiers of formulas with a bound on the steps and of formulas with others inside.
+"""These dossiers are of formulas with a bound on the steps and of formulas with others inside.
 
 With EVERY_BYTE in the environment each byte of a dossier of steps is changed in turn, and a thousand bytes of one with
 a formula inside; else a few of each.
@@ -11,18 +11,19 @@ import sys
 import unittest
 from unittest import mock
 
-from tools.test_dossier import second_here
+from tools.test_dossier import Judged
 from toolbox import evidence, programs
-from toolbox.testing import EXAMPLES, MODELS, TOOLS, InFolder, call_tool, load, needs_program, program, run
+from toolbox.testing import GAME, MODELS, TOOLS, call_tool, load, needs_program, program, run
 
-GAME = [str(EXAMPLES / f"two_players.{ending}") for ending in ("tra", "lab", "own")]
+from core import ALL_PATHS, drawn_formula, drawn_game
+
 OWN = ["--own", GAME[2]]
 COIN = [str(MODELS / f"coin-2-2.{ending}") for ending in ("tra", "lab")]
 DIE = [str(MODELS / f"die-6.{ending}") for ending in ("tra", "lab")]
 RECOVERS = 'P>=1 [ G P>=1 [ F "finished" ] ]'
 FEW, MANY, MOST, DRAWN = 10, 1000, 3000, 20
 
-# a formula, and what it is taken apart into
+# Each row has a formula and what it is taken apart into.
 PARTS = [
     ('Pmax=? [ F "a" ]', ['Pmax=? [ F "a" ]']),
     ('P>=1 [ G P>=1 [ F "a" ] ]', ['P>=1 [ F "a" ]', 'P>=1 [ G "inside_1" ]']),
@@ -32,7 +33,7 @@ PARTS = [
      ['P>0 [ X "a[" ]', 'P>0 [ X "inside_1" & "b" ]', 'P>0 [ F "inside_2" ]']),
 ]
 
-# the words of a dossier, and the lines that its last step has by both
+# Each row has the words of a dossier, and the lines that both audits write in its last step.
 ANSWERED = [
     ([*GAME[:2], '<<p1>> P>=0.6 [ F<=1 "goal" ]', *OWN],
      ["state 0 lower 0.650000000000000 upper 0.650000000000000 steps 1 True"] * 2),
@@ -60,40 +61,14 @@ class TakenApart(unittest.TestCase):
         self.assertEqual(evidence.label_text(marks), '0="init" 1="a"\n0: 0\n1: 0\n2: 0 1\n')
 
 
-def drawn_formula(draw, depth, is_inside=False):
-    """A formula with so many others one in another at most, over the game of two players."""
-    coalition = draw.choice(("", "", "<<p1>> ", "<<p2>> ", "<<p1,p2>> ", "<<>> "))
-    threshold = f"P{draw.choice(('>=', '>', '<=', '<'))}{draw.choice(('0', '0.2', '1/3', '0.65', '0.9', '1'))}"
-    bound = threshold if is_inside or draw.random() < 0.7 else draw.choice(("Pmax=?", "Pmin=?"))
-    left, right = drawn_side(draw, depth), drawn_side(draw, depth)
-    steps = draw.choice(("", "", "<=0", "<=1", "<=3"))
-    path = draw.choice((f"F{steps} {right}", f"{left} U{steps} {right}", f"G {right}", f"X {right}"))
-    return f"{coalition}{bound} [ {path} ]"
-
-
-def drawn_side(draw, depth):
-    """A side of a path, which has a formula inside in most cases where it may have one."""
-    if depth and draw.random() < 0.7:
-        inside = drawn_formula(draw, depth - 1, True)
-        return draw.choice((inside, f"!{inside}", f'("goal" | {inside})', f'({inside} & !"init")'))
-    return draw.choice(('"goal"', '"init"', '!"goal"', "true", '("init" | "goal")'))
-
-
 @needs_program
-class Evidence(InFolder):
+class Evidence(Judged):
     def setUp(self):
         super().setUp()
-        os.environ["STOGAME"] = str(program())
-        for module, name, instead in (
-            (evidence, "second_of", second_here),
-            (load("dossier"), "provenance", lambda: ["sources unknown", "kit unknown"]),
-        ):
-            patch = mock.patch.object(module, name, instead)
-            patch.start()
-            self.addCleanup(patch.stop)
+        self.start(mock.patch.object(load("dossier"), "provenance", lambda: ["sources unknown", "kit unknown"]))
 
     def dossier(self, *words):
-        """The text of a dossier, which verifies."""
+        """Returns the text of a dossier, which has to verify."""
         status, text, errors = call_tool("dossier", *words)
         self.assertEqual((status, errors), (0, ""))
         name = self.write("dossier", text)
@@ -132,7 +107,7 @@ class Evidence(InFolder):
             self.assertIn(": it is 'file labels_2 sha256 ", errors)
 
     def forged(self, text, piece, old, new):
-        """A dossier with a change in one of its files, and with hashes that fit."""
+        """Changes one of the files of a dossier, and makes the hashes fit."""
         dossier = load("dossier")
         held = dossier.pieces_filed(text.split("\n"))[piece]
         changed = held.replace(old, new, 1)
@@ -143,7 +118,7 @@ class Evidence(InFolder):
         return f"{first}\n{dossier.second_line(body)}\n{body}"
 
     def test_a_forged_certificate(self):
-        """Of the formula inside another one it is judged at every state."""
+        """The certificate of a formula inside is judged at every state."""
         text = self.dossier(*COIN, RECOVERS)
         forged = self.forged(text, "certificate_1", "\n9 1.000000000000000", "\n9 0.900000000000000")
         name = self.write("forged", forged)
@@ -172,7 +147,10 @@ class Evidence(InFolder):
         """Steps come to what the program says by itself, or stop where a state stays undecided."""
         draw, statuses = random.Random(3), []
         for _ in range(DRAWN):
-            words = [*GAME[:2], drawn_formula(draw, 2), *OWN]
+            model, formula = drawn_game(draw, all_initial=False), drawn_formula(draw, ALL_PATHS, 2).formula()
+            model.write(self.folder / "m")
+            tra, lab, own = (str(self.folder / f"m.{ending}") for ending in ("tra", "lab", "own"))
+            words = [tra, lab, formula, "--own", own]
             with self.subTest(formula=words[2]):
                 status, text, errors = call_tool("dossier", *words)
                 self.assertIn(status, (0, 2), errors)

@@ -109,11 +109,11 @@ class Transitions(InFolder):
         for state in range(model.states):
             found.append([])
             for choice in model.choices_of(state):
-                weights, total = model.weighted(choice)
+                weights, total = model.weights[choice]
                 self.assertEqual(sum(weights), total)
                 moves = Counter()
-                for edge, weight in zip(model.edges_of(choice), weights):
-                    moves[model.successor[edge]] += Fraction(weight, total)
+                for successor, weight in zip(model.successors(choice), weights):
+                    moves[successor] += Fraction(weight, total)
                 found[-1].append(dict(moves))
         return found
 
@@ -143,7 +143,7 @@ class Transitions(InFolder):
 
     def test_wide_choices(self):
         wide = self.read("1 1 2\n0 0 0 0.00000000000000000000001\n0 0 0 0.99999999999999999999999\n")
-        self.assertEqual(wide.weighted(0), ([1, 10**23 - 1], 10**23))
+        self.assertEqual(wide.weights[0], ([1, 10**23 - 1], 10**23))
 
     def test_refusals(self):
         for text, line, cause in REFUSED_TRANSITIONS:

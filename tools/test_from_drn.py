@@ -223,9 +223,6 @@ class Refused(InFolder):
         self.assertEqual(run_tool("from_drn", name, self.folder / "out"), (4, "", said))
 
     def test_words(self):
-        status, output, errors = run_tool("from_drn", "--help")
-        self.assertEqual((status, errors), (0, ""))
-        self.assertIn("from_drn FILE OUT", output)
         status, output, errors = run_tool("from_drn", "model.drn", "out", "--names", "0")
         self.assertEqual((status, output), (3, ""))
         self.assertIn("'0' is no list of VALUE=NAME", errors)

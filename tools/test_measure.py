@@ -2,6 +2,7 @@
 
 import sys
 import unittest
+from unittest import mock
 
 from gallery.families import die, wind
 from toolbox.exact import exact_values
@@ -71,8 +72,7 @@ class MadeUp(InFolder):
         heads = "\t".join(measure.COLUMNS)
         blank = "\t" * (len(measure.COLUMNS) - 3)
         text = f"{heads}\nmodels\tg\ta{blank}\nruns\tg\told{blank}\nwidths\t\tc{blank}\n"
-        kept, measure.STORED = measure.STORED, self.write("measured.tsv", text)
-        self.addCleanup(setattr, measure, "STORED", kept)
+        self.start(mock.patch.object(measure, "STORED", self.write("measured.tsv", text)))
         measure.store("runs", [{"group": "g", "model": "new"}])
         self.assertEqual(measure.STORED.read_text(encoding="ascii"), text.replace("old", "new"))
 
@@ -87,7 +87,6 @@ class Words(unittest.TestCase):
 
     def test_faults(self):
         self.assertEqual(run_tool("measure", "small", "--program", "none")[0], 5)
-        self.assertEqual(run_tool("measure", "--help")[0], 0)
         status, _, errors = run_tool("measure", "small", "--store", "--program", sys.executable)
         said = "measure: only what is measured in full is stored; measure --help says more\n"
         self.assertEqual((status, errors), (3, said))

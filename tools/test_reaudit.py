@@ -1,5 +1,5 @@
-"""The second audit: it says what `stogame audit` says of the gallery's certificates, of a thousand that were changed,
-and of models and formulas that were damaged; and of steps what `stogame check` says."""
+"""The second audit says what `stogame audit` says about the gallery's certificates, a thousand changed ones, and
+damaged models and formulas. About bounded steps it says what `stogame check` says."""
 
 import random
 import re
@@ -7,11 +7,16 @@ import sys
 from functools import lru_cache
 from unittest import mock
 
-from toolbox.testing import TOOLS, InFolder, call_tool, certified_models, certified_questions, load, needs_program
-from toolbox.testing import program, run, stepped_questions
+from toolbox.testing import CERTIFICATE, FORMULA, TOOLS, InFolder, call_tool, certified_models, certified_questions
+from toolbox.testing import load, needs_program, program, run, stepped_questions
+
+import core
+import limits
+from certificates import change
+from damaged import FIELDS, certificate_for, damaged, drawn_texts, spoken
 
 CHANGED = 1000
-DAMAGED = 200
+DAMAGED, FEW = 200, 4
 MOST_STATES = 400
 reaudit = load("reaudit")
 read_game = lru_cache(maxsize=None)(reaudit.read_game)
@@ -21,15 +26,9 @@ GAME = (
     '0="init" 1="goal"\n0: 0\n2: 1\n',
     '0="p1" 1="p2"\n1: 1\n',
 )
-FORMULA = '<<p1>> P>=0.6 [ F "goal" ]'
-ENTRIES = [
-    "0 0.650000000000000 1 1 0.650000000000000 -",
-    "1 0.200000000000000 - 1 0.200000000000000 1",
-    "2 1.000000000000000 - 0 1.000000000000000 -",
-    "3 0.000000000000000 - 0 0.000000000000000 -",
-]
+HEAD, *ENTRIES = CERTIFICATE.splitlines()
 
-# a formula, a line of the certificate and what stands there instead, and what is written
+# Each row has a formula, a line of the certificate, what replaces it, and what is written.
 WORKED = [
     (FORMULA, 0, ENTRIES[0], "state 0 lower 0.650000000000000 upper 0.650000000000000 reaudited True"),
     ('<<p1>> P>0.65 [ F "goal" ]', 0, ENTRIES[0],
@@ -53,7 +52,7 @@ WORKED = [
     (FORMULA, 3, "", "refused cert line 5 MissingLine"),
 ]
 
-# a formula with a bound on the steps, and what is written
+# Each row has a formula with a bound on the steps, and what is written.
 STEPPED = [
     ('<<p1>> P>=0.6 [ F<=1 "goal" ]', "state 0 lower 0.650000000000000 upper 0.650000000000000 steps 1 True"),
     ('<<p1>> P<0.6 [ F<=1 "goal" ]', "state 0 lower 0.000000000000000 upper 0.000000000000000 steps 1 True"),
@@ -73,7 +72,7 @@ def call(*words):
 
 
 class Worked(InFolder):
-    """Worked by hand over the game of two players."""
+    """These rows about the game of two players were worked out by hand."""
 
     def words(self, formula):
         names = [str(self.write(name, text)) for name, text in zip(("m.tra", "m.lab", "m.own"), GAME)]
@@ -83,7 +82,7 @@ class Worked(InFolder):
         for formula, place, entry, line in WORKED:
             with self.subTest(formula=formula, entry=entry):
                 entries = [*ENTRIES[:place], entry, *ENTRIES[place + 1 :]]
-                self.write("certificate", "certificate 2 4\n" + "\n".join(entries) + "\n")
+                self.write("certificate", "\n".join([HEAD, *entries, ""]))
                 _, output, errors = call(*self.words(formula))
                 self.assertEqual((output, errors), (line + "\n", ""))
 
@@ -127,7 +126,7 @@ class Worked(InFolder):
                 self.assertEqual(call(*words)[1], line + "\n")
 
     def test_faults_name_file_and_line(self):
-        self.write("certificate", "certificate 2 4\n" + "\n".join(ENTRIES) + "\n")
+        self.write("certificate", CERTIFICATE)
         words = self.words(FORMULA)
         for place, text, said in (
             (0, "4 6 9\n0 0 x 1\n", "line 2: 'x' is no whole number"),
@@ -164,7 +163,7 @@ class Worked(InFolder):
         for place in (0, 1, 3, 5):
             self.assertEqual(call(*words[:place], none, *words[place + 1 :]), (5, "", said))
         self.assertEqual(call(*words[:3], *words[4:])[:2], (3, ""))
-        self.write("certificate", "certificate 2 4\n" + "\n".join(ENTRIES) + "\n")
+        self.write("certificate", CERTIFICATE)
         command = " ".join(f"'{word}'" for word in (sys.executable, TOOLS / "reaudit", *words))
         for output, cause in (("> /dev/full", "no storage space"), (">&-", "bad file descriptor")):
             ended = run("bash", "-c", f"{command} {output}")
@@ -180,13 +179,13 @@ class Worked(InFolder):
 
 
 def question_of(one):
-    """A question as the second audit reads it; a game is read once for all that is asked of it."""
+    """Reads a question as the second audit does; each game is read only once."""
     with mock.patch.object(reaudit, "read_game", read_game):
         return reaudit.Question(*one.words[:3], one.words[4] if len(one.words) > 3 else None)
 
 
 def judged(question, text, path):
-    """What the second audit writes of a certificate for a question that was read."""
+    """Returns what the second audit writes about a certificate for a question that was read."""
     path.write_text(text, encoding="latin-1")
     try:
         entries = reaudit.entries_of(str(path), len(question.game))
@@ -196,187 +195,21 @@ def judged(question, text, path):
         return ended.args[1] + "\n"
 
 
-def changed_value(draw, field):
-    """A bound that is off by a unit, a few or many, or another text."""
-    units = int(field.replace(".", "")) + draw.choice((1, -1, 2, -3, 1000, -(10**9), 10**14))
-    return (
-        f"{abs(units) // 10**15}.{abs(units) % 10**15:015}"
-        if draw.random() < 0.9
-        else draw.choice(("1", "1.1", "-", "0.5", "1.000000000000001"))
-    )
-
-
-def changed_line(draw, line):
-    """A line of a state with another field."""
-    fields = line.split()
-    place = draw.randrange(len(fields))
-    if place in (1, 4):
-        fields[place] = changed_value(draw, fields[place])
-    else:
-        fields[place] = draw.choice(("-", "0", "1", "2", "00", "16384", "4294967296", "7", "x", ""))
-    return " ".join(fields)
-
-
-def changed(draw, lines, first):
-    """A certificate with a change: a field of a line, mostly;
-    else a line left out, twice there, or moved, or another head."""
-    lines, place = list(lines), draw.randrange(first + 1, len(lines))
-    kind = draw.random()
-    if kind < 0.85:
-        lines[place] = changed_line(draw, lines[place])
-    elif kind < 0.9:
-        del lines[draw.randrange(first, len(lines))]
-    elif kind < 0.95:
-        lines.insert(place, draw.choice((lines[place], "", "x", "\r")))
-    else:
-        lines[first] = draw.choice(
-            (
-                "certificate 1 7",
-                "certificate 3 4",
-                "certificate 02 4",
-                "certificate 2",
-                "certificate 2 x",
-                lines[first] + " 1",
-            )
-        )
-    return "\n".join(lines) + draw.choice(("\n", "", "\n\n", "\r\n", "\r"))
-
-
-NAMED_ACTIONS = (
-    "4 6 9\n0 0 1 1 pass\n0 1 2 0.65 throw\n0 1 3 0.35 throw\n1 0 2 1/2\n1 0 3 5e-1\n"
-    "1 1 2 0.2 right\n1 1 3 0.8 right\n2 0 2 1\n3 0 3 1\n"
-)
-CHAIN = "4 5\n0 2 0.65\n0 3 0.35 gone\n1 1 1\n2 2 1\n3 3 1\n"
-
-# what takes the place of a field, a token or a byte of a text that is damaged
-FIELDS = {
-    "tra": [
-        "-1", "0", "1", "2", "3", "4", "0.5", "1/2", "1/0", "1e-24", ".5", "+1", "2.5", "1e100", "0x1", "16384",
-        "9999999999999999999999999999999", "0.499996", "0.4999", "1/3", "0.33333", "a", "throw", "1000001", "0:1",
-        "00", "\xb2", "0.5 jump", "1e-1000",
-    ],
-    "lab": [
-        '"goal"', '2="two"', '1="two"', '0="goal"', '3=""', '3="a"b"', "1", "2", "4", ":", "0:", "0:1", "-1", "x",
-        '1000000="far"', "00", "0:0 1", '5="init"', "\xb2",
-    ],
-    "own": [
-        '2="p3"', '1="p3"', '0="p2"', '3="3p"', "0", "1", "2", "4", ":", "1:", "1:0", "1:1 0", "1:1 1", "x",
-        '4="p 4"',
-    ],
-    "formula": [
-        "P", ">=", "<", "<=3", "=?", "Pmax", "Pmin", "[", "]", "(", ")", "!", "&", "|", "=>", "F", "G", "U", "X",
-        '"goal"', '"init"', '"gaol"', "goal", "true", "false", "0.5", "1", "2", "1/3", "3/2", "1e-24", "<<p1>>",
-        "<<p2,p1>>", "<<p3>>", "<<>>", "p1", ",", "P>0.5 [ F true ]", "\r", "\t", "\n", "\r\n", "\x0b", "\xe4",
-        "!!!!!!!!!!!!!!!!!!!!!!!!!!!!!!!!!!!!!!!!!!!!!!!!!!!!!!!!!!!!!!!!!", "/",
-    ],
-    "cert": [
-        "-", "0", "1", "x", "1.000000000000001", "0.5", "certificate", "16384", "4294967296", "",
-    ],
-}
-# texts at a limit and just beyond it, each with whether it is accepted
-LIMITS = [
-    ("formula", FORMULA.replace("[ F", "[ F" + " " * (4096 - len(FORMULA))), True),
-    ("formula", FORMULA.replace("[ F", "[ F" + " " * (4097 - len(FORMULA))), False),
-    ("formula", '<<p1>> P>=0.6 [ F ' + "(" * 64 + '"goal"' + ")" * 64 + " ]", True),
-    ("formula", '<<p1>> P>=0.6 [ F ' + "(" * 65 + '"goal"' + ")" * 65 + " ]", False),
-    ("formula", '<<p1>> P>=0.6 [ F ' + '"goal" & ' * 400 + '"goal" ]', True),
-    ("formula", FORMULA.replace("0.6", "0.6" + "0" * 28), True),
-    ("formula", FORMULA.replace("0.6", "0.6" + "0" * 29), False),
-    ("formula", FORMULA.replace("0.6", "6e-01"), True),
-    ("formula", FORMULA.replace("0.6", "6e-0001"), False),
-    ("formula", FORMULA.replace("0.6", "0e-99"), True),
-    ("formula", FORMULA.replace("0.6", "0e-100"), False),
-    ("formula", FORMULA.replace("0.6", "0.00000000000000000000001"), True),
-    ("formula", FORMULA.replace("0.6", "0.000000000000000000000001"), False),
-    ("formula", FORMULA.replace("0.6", "00/1"), True),
-    ("formula", FORMULA.replace("0.6", "0/0"), False),
-    ("lab", '0="init" 1="goal" 2="%s"\n0: 0\n2: 1\n' % ("x" * 255), True),
-    ("lab", '0="init" 1="goal" 2="%s"\n0: 0\n2: 1\n' % ("x" * 256), False),
-    ("lab", " ".join(['0="init" 1="goal"', *(f'{n}="l{n}"' for n in range(2, 1000))]) + "\n0: 0\n2: 1\n", True),
-    ("lab", " ".join(['0="init" 1="goal"', *(f'{n}="l{n}"' for n in range(2, 1001))]) + "\n0: 0\n2: 1\n", False),
-    ("lab", '0="init" 1="goal" 999999="x"\n0: 0\n2: 1\n', True),
-    ("lab", '0="init" 1="goal" 1000000="x"\n0: 0\n2: 1\n', False),
-    ("own", " ".join(f'{n}="p{n + 1}"' for n in range(64)) + "\n1: 1\n", True),
-    ("own", " ".join(f'{n}="p{n + 1}"' for n in range(65)) + "\n1: 1\n", False),
-    ("own", '0="p1" 1="p2" 2="%s"\n1: 1\n' % ("x" * 255), True),
-    ("own", '0="p1" 1="p2" 2="%s"\n1: 1\n' % ("x" * 256), False),
-    ("tra", NAMED_ACTIONS.replace("1 1 3 0.8 ", "1 1 3 0.800008 "), True),
-    ("tra", NAMED_ACTIONS.replace("1 1 3 0.8 ", "1 1 3 0.80001 "), True),
-    ("tra", NAMED_ACTIONS.replace("1 1 3 0.8 ", "1 1 3 0.800011 "), False),
-    ("tra", NAMED_ACTIONS.replace("1 1 3 0.8 ", "1 1 3 0.79999 "), True),
-    ("tra", NAMED_ACTIONS.replace("1 1 3 0.8 ", "1 1 3 0.799989 "), False),
-    ("tra", NAMED_ACTIONS.replace("4 6 9", "1000001 6 9"), False),
-    ("tra", NAMED_ACTIONS.replace("4 6 9", "4 4000001 9"), False),
-    ("tra", NAMED_ACTIONS.replace("4 6 9", "4 6 8000001"), False),
-]
-BYTES = "01 \t\n\r.:-=x\"/e"
-
-
-def damaged(draw, kind, text):
-    """A text with one to three faults, or what looks like one."""
-    for _ in range(draw.choice((1, 1, 1, 2, 3))):
-        text = draw.choice((with_field, with_field, with_line, with_byte))(draw, kind, text)
-    return text
-
-
-def with_field(draw, kind, text):
-    """Another field or token, or one more, or one less."""
-    parts = re.split(r"(\s+)", text)
-    place = 2 * draw.randrange((len(parts) + 1) // 2)
-    field = draw.choice(FIELDS[kind])
-    parts[place] = draw.choice((field, field, f"{parts[place]} {field}", f"{parts[place]}{field}", ""))
-    return "".join(parts)
-
-
-def with_line(draw, kind, text):
-    """A line left out, doubled, moved or blank, a text cut off, or other ends of lines."""
-    lines = text.split("\n")
-    place, other = draw.randrange(len(lines)), draw.randrange(len(lines))
-    change = draw.randrange(6)
-    if change == 0:
-        del lines[place]
-    elif change == 1:
-        lines.insert(other, lines[place])
-    elif change == 2:
-        lines[place], lines[other] = lines[other], lines[place]
-    elif change == 3:
-        lines.insert(place, draw.choice(("", " ", "\t", "\r")))
-    elif change == 4:
-        return text[: draw.randrange(len(text) + 1)]
-    return draw.choice(("\n", "\n", "\r\n")).join(lines)
-
-
-def with_byte(draw, kind, text):
-    """A byte more, less, or another."""
-    place = draw.randrange(len(text) + 1)
-    return text[:place] + draw.choice((draw.choice(BYTES), "")) + text[place + draw.randrange(2) :]
+# Code in Python might take these fields for others.
+ODD = ("\xb2", "\x0b", "0x1", "0:1", "0:0 1", "0.5 jump", '3="a"b"', '3=""', '4="p 4"', '5="init"', "<<p3>>")
 
 
 @needs_program
 class Damaged(InFolder):
     """The program and the second audit refuse the same damaged texts, and write the same of the others."""
 
-    def texts(self, kind, draw):
-        """A model, a formula and a certificate that is right, of which one text is damaged; and the words."""
-        chain = kind == "tra" and draw.random() < 0.3
-        texts = {
-            "tra": CHAIN if chain else NAMED_ACTIONS,
-            "lab": GAME[1],
-            "own": GAME[2],
-            "formula": draw.choice((FORMULA, '<<p1>> Pmax=? [ true U "goal" & !"init" ]', '<<p1>> P<1 [ G !"goal" ]')),
-            "cert": "certificate 2 4\n" + "\n".join(ENTRIES) + "\n",
-        }
-        if kind == "tra" and chain:
-            texts["cert"] = texts["cert"].replace("1 0.200000000000000 - 1 0.2", "1 0.000000000000000 - 1 0.0")
-        return {**texts, kind: damaged(draw, kind, texts[kind])} if kind else texts
-
-    def compare(self, kind, texts):
-        """Asks both, about steps where there is no certificate, and gives the status."""
-        names = {one: str(self.folder / one) for one in texts if one != "formula"}
+    def compare(self, texts):
+        """Asks both, about steps if there is no certificate, and returns the status."""
+        names = {one: str(self.folder / one) for one in texts}
         for one, name in names.items():
             (self.folder / one).write_bytes(texts[one].encode("latin-1"))
-        cert = [names["cert"]] if "cert" in names else []
-        words = [names["tra"], names["lab"], texts["formula"], *cert, "--own", names["own"]]
+        cert, formula = [names["certificate"]] if "certificate" in names else [], spoken(texts["formula"])
+        words = [names["tra"], names["lab"], formula, *cert, "--own", names["own"]]
         ended, said, _ = run(program(), "audit" if cert else "check", *words)
         status, output, errors = call(*words)
         self.assertEqual(status, ended, (said, output, errors))
@@ -388,43 +221,44 @@ class Damaged(InFolder):
         return status
 
     def test_limits(self):
-        """In a model of other weights the certificate may be refused, which accepts the text."""
-        for kind, text, accepted in LIMITS:
+        """Both agree at each limit and just beyond it. If the model is another one, its certificate may be refused."""
+        certificate = certificate_for(limits.TEXTS)
+        for kind, text in limits.rows():
             with self.subTest(kind=kind, text=text[:200]):
-                texts = {**self.texts(None, random.Random(1)), "formula": FORMULA, kind: text}
-                self.assertEqual(self.compare(kind, texts) != 4, accepted)
+                self.compare({**limits.TEXTS, "certificate": certificate, kind: text})
 
     def test_each_kind(self):
-        for kind in FIELDS:
+        for kind in ("tra", "lab", "own", "formula", "certificate"):
             draw, statuses = random.Random(kind), []
             for number in range(DAMAGED):
-                texts = self.texts(kind, draw)
-                if not texts["formula"] or "\0" in texts["formula"] or texts["formula"].startswith("-"):
-                    continue
+                if number % FEW == 0:
+                    right = drawn_texts(draw, False)
+                    right["certificate"] = certificate_for(right)
+                texts = dict(right)
+                for _ in range(draw.choice((1, 1, 1, 2, 3))):
+                    texts[kind] = damaged(draw, texts[kind], kind == "formula", draw.choice((FIELDS, ODD)))
                 with self.subTest(kind=kind, number=number, text=texts[kind]):
-                    statuses.append(self.compare(kind, texts))
+                    statuses.append(self.compare(texts))
             refused = sum(status in (4, 8) for status in statuses)
             with self.subTest(kind=kind):
                 self.assertTrue(DAMAGED / 4 < refused < DAMAGED, refused)
 
-
     def test_steps(self):
-        """Of damaged formulas that still have a bound on the steps both write the same lines."""
+        """Both write the same lines about damaged formulas that still have a bound on the steps."""
         draw, statuses = random.Random("steps"), []
-        formulas = ('<<p1>> P>=0.6 [ F<=2 "goal" ]', 'Pmax=? [ !"init" U<=3 "goal" ]', 'P<1 [ X "goal" | "init" ]')
         for number in range(DAMAGED):
-            texts = {**self.texts(None, draw), "formula": damaged(draw, "formula", draw.choice(formulas))}
-            del texts["cert"]
+            texts = {**drawn_texts(draw, True), "formula": core.drawn_formula(draw, core.STEPPED).formula()}
+            texts["formula"] = damaged(draw, texts["formula"], True, draw.choice((FIELDS, ODD)))
             steps = re.search(r"(\bX\b|<=\s*[0-9]+\b(?![^[]*\[))", texts["formula"])
             if steps and not re.search("\0|P.*P", texts["formula"]):
                 with self.subTest(number=number, text=texts["formula"]):
-                    statuses.append(self.compare("formula", texts))
+                    statuses.append(self.compare(texts))
         self.assertTrue(DAMAGED / 8 < statuses.count(4) < len(statuses) * 7 / 8, len(statuses))
 
 
 @needs_program
 class Alike(InFolder):
-    """The program and the second audit write the same, but for the word for it."""
+    """The program and the second audit write the same, but for `audited` and `reaudited`."""
 
     def compare(self, one, question, text):
         mine = judged(question, text, self.folder / "certificate")
@@ -451,6 +285,9 @@ class Alike(InFolder):
         for number in range(CHANGED):
             place = number % len(few)
             with self.subTest(number=number, model=few[place].name):
-                text = changed(draw, few[place].text.splitlines(), few[place].start)
+                lines = [line.split() for line in few[place].text.splitlines()]
+                change(draw, draw.choice(lines[few[place].start + 1 :]))
+                text = "".join(f"{' '.join(fields)}\n" for fields in lines)
+                text = text if draw.random() < 0.85 else damaged(draw, text, False)
                 accepted += " audited " in self.compare(few[place], questions[place], text)
         self.assertTrue(CHANGED / 20 < accepted < CHANGED / 2, accepted)

@@ -102,9 +102,6 @@ class Commands(InFolder):
         self.assertEqual(run_tool("respell", self.write("again.tra", output)), (0, output, ""))
 
     def test_words(self):
-        status, output, errors = run_tool("respell", "--help")
-        self.assertEqual((status, errors), (0, ""))
-        self.assertIn("respell FILE [--round D]", output)
         for places in ("0", "24", "x", "-1"):
             status, output, errors = run_tool("respell", "m.tra", f"--round={places}")
             self.assertEqual((status, output), (3, ""))

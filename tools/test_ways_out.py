@@ -1,4 +1,4 @@
-"""Tables and strategies of certificates, and strategies of one's own: read back, compared with the certificate, and
+"""Tables and strategies of certificates are read back and compared with the certificate; strategies of one's own are
 valued."""
 
 import csv
@@ -10,23 +10,16 @@ from fractions import Fraction
 from pathlib import Path
 
 from toolbox import explicit
-from toolbox.exact import Plain, exact_values
+from toolbox.exact import exact_values
 from toolbox.strategies import read_choice_names, read_strategy
-from toolbox.testing import EXAMPLES, SAMPLES, TOOLS, InFolder, call_tool, certified_models, needs_program, program
-from toolbox.testing import run, run_tool
+from toolbox.testing import CERTIFICATE, FORMULA, GAME, SAMPLES, TOOLS, InFolder, call_tool, certified_models
+from toolbox.testing import needs_program, program, run, run_tool
+
+from answers import read_files
 
 SCHEMA = TOOLS.parent / "docs" / "table.schema.json"
 NAMED = [str(SAMPLES / f"named_game.{ending}") for ending in ("tra", "sta")]
-GAME = [str(EXAMPLES / f"two_players.{ending}") for ending in ("lab", "own")]
-FORMULA = '<<p1>> P>=0.6 [ F "goal" ]'
-
-CERTIFICATE = """formula <<p1>> P>=3/5 [ F "goal" ]
-certificate 2 4
-0 0.650000000000000 1 1 0.650000000000000 -
-1 0.200000000000000 - 1 0.200000000000000 1
-2 1.000000000000000 - 0 1.000000000000000 -
-3 0.000000000000000 - 0 0.000000000000000 -
-"""
+SAID = f'formula <<p1>> P>=3/5 [ F "goal" ]\n{CERTIFICATE}'
 
 TABLE = """state,turn,over,owner,labels,lower,upper,mover,choice,action,rank
 0,1,false,p1,init,0.650000000000000,0.650000000000000,maximiser,1,throw,1
@@ -35,13 +28,13 @@ TABLE = """state,turn,over,owner,labels,lower,upper,mover,choice,action,rank
 3,2,true,p1,,0.000000000000000,0.000000000000000,maximiser,,,0
 """
 
-# the commands, each with as many words as it takes
+# These are the commands, each with the number of words that it takes.
 COMMANDS = {
     "table": 1, "strategy": 1, "guarantee": 3, "properties": 3, "dossier": 3, "reaudit": 4,
     "respell": 1, "owners": 2, "from_drn": 2, "measure": 0, "refuse_memory": 0,
 }
 
-# options behind the certificate, and what they write of the strategy
+# Each row has options behind the certificate, and what they write about the strategy.
 WRITTEN = [
     (["--side", "maximiser", "--prism-actions"], "0:throw\n2:0\n3:0\n"),
     (["--side", "minimiser", "--prism-actions"], "1:right\n"),
@@ -52,7 +45,7 @@ WRITTEN = [
      '[\n    {"c": [{"index": 3, "prob": 1, "labels": ["right"]}], "s": {"turn": 2, "over": false}}\n]\n'),
 ]
 
-# an owner file, the side, and the transitions that are left of the game
+# Each row has a side, and the transitions of the game that are left.
 INDUCED = [
     ("maximiser",
      "4 5 8\n0 0 2 0.65 throw\n0 0 3 0.35 throw\n1 0 2 0.5 left\n1 0 3 0.5 left\n1 1 2 0.2 right\n1 1 3 0.8 right\n"
@@ -61,35 +54,35 @@ INDUCED = [
      "4 5 7\n0 0 1 1 pass\n0 1 2 0.65 throw\n0 1 3 0.35 throw\n1 0 2 0.2 right\n1 0 3 0.8 right\n2 0 2 1\n3 0 3 1\n"),
 ]
 
-# a certificate's text, the words of a tool, and its one line
+# Each row has a tool, the text of a certificate, further words, and the one line that the tool writes.
 REFUSED = [
     ("table", "nothing\n", [], "no line begins with 'certificate'"),
     ("table", "certificate 3 4\n", [], "line 1: 'certificate 3 4' is no 'certificate 2 N' and no 'certificate 1 N'"),
-    ("table", CERTIFICATE.replace("\n3 0", "\n4 0"), [],
+    ("table", SAID.replace("\n3 0", "\n4 0"), [],
      "line 6: no line of state 3: number, lower bound, choice, rank, upper bound, reply"),
-    ("table", CERTIFICATE.replace("0.650000000000000 1 1", "0.65 1 1"), [],
+    ("table", SAID.replace("0.650000000000000 1 1", "0.65 1 1"), [],
      "line 3: no line of state 0: number, lower bound, choice, rank, upper bound, reply"),
-    ("table", CERTIFICATE.replace("650000000000000 1 1", "650000000000000 16384 1"), [],
+    ("table", SAID.replace("650000000000000 1 1", "650000000000000 16384 1"), [],
      "line 3: a number of state 0 is above its limit"),
-    ("table", CERTIFICATE.replace(" 1 1 0.65", " 1 " + "9" * 5000 + " 0.65"), [],
+    ("table", SAID.replace(" 1 1 0.65", " 1 " + "9" * 5000 + " 0.65"), [],
      "line 3: a number of state 0 is above its limit"),
-    ("table", CERTIFICATE + "4\n", [], "line 7: more behind the line of the last state, 3"),
-    ("table", "\n".join(CERTIFICATE.split("\n")[:4]), [], "lines of 2 states; the first line states 4"),
-    ("table", CERTIFICATE.replace(" 1 1 0.65", " 2 1 0.65"), ["--tra", NAMED[0]],
+    ("table", SAID + "4\n", [], "line 7: more behind the line of the last state, 3"),
+    ("table", "\n".join(SAID.split("\n")[:4]), [], "lines of 2 states; the first line states 4"),
+    ("table", SAID.replace(" 1 1 0.65", " 2 1 0.65"), ["--tra", NAMED[0]],
      "line 3: state 0 has 2 choices, counted from 0, and no choice 2"),
-    ("table", CERTIFICATE.replace("000 1\n", "000 2\n"), ["--tra", NAMED[0]],
+    ("table", SAID.replace("000 1\n", "000 2\n"), ["--tra", NAMED[0]],
      "line 4: state 1 has 2 choices, counted from 0, and no choice 2"),
-    ("strategy", CERTIFICATE, ["--tra", NAMED[0], "--own", GAME[1], "--prism-actions"],
+    ("strategy", SAID, ["--tra", NAMED[0], "--own", GAME[2], "--prism-actions"],
      "both sides move; --side maximiser or --side minimiser says whose choices are meant"),
-    ("strategy", CERTIFICATE.replace("certificate 2 4", "certificate 2 3"), ["--tra", NAMED[0], "--prism-actions"],
+    ("strategy", SAID.replace("certificate 2 4", "certificate 2 3"), ["--tra", NAMED[0], "--prism-actions"],
      "line 6: more behind the line of the last state, 2"),
 ]
 
-# what is said of a strategy, by side
+# These lines are said about a strategy of either side.
 MOST = "state 0 maximiser guarantees at least {0} and no more than {0} audited {1}\n"
 LEAST = "state 0 minimiser guarantees at most {0} and no less than {0} audited {1}\n"
 
-# a strategy, and what is said of it
+# Each row has a strategy, the status, and what is said about it.
 GUARANTEED = [
     ("0:throw\n", 0, MOST.format("0.650000000000000", "True")),
     ("0=1\n", 0, MOST.format("0.650000000000000", "True")),
@@ -99,7 +92,7 @@ GUARANTEED = [
     ('[{"s": 0, "c": [{"index": 0, "prob": 1}]}]', 1, MOST.format("0.200000000000000", "False")),
 ]
 
-# a strategy that is refused, and why
+# Each row has a strategy that is refused, and why.
 NO_STRATEGY = [
     ("0:2\n", "line 1: state 0 has 2 choices, counted from 0, and no choice 2"),
     ("0:jump\n", "line 1: state 0 has no choice of the name jump"),
@@ -116,7 +109,7 @@ NO_STRATEGY = [
 
 
 def fits(schema, value):
-    """Whether a value is of a schema of the few kinds that the table's has."""
+    """Says whether a value fits a schema, which may be of the few kinds that the table's has."""
     kinds = {"object": dict, "array": list, "string": str, "integer": int, "boolean": bool, "null": type(None)}
     kind = schema.get("type", [])
     if not any(isinstance(value, kinds[one]) for one in ([kind] if isinstance(kind, str) else kind)):
@@ -138,10 +131,10 @@ class Small(InFolder):
 
     def setUp(self):
         super().setUp()
-        self.cert = str(self.write("cert", CERTIFICATE))
+        self.cert = str(self.write("cert", SAID))
 
     def test_table_as_csv(self):
-        words = ["--tra", NAMED[0], "--sta", NAMED[1], "--lab", GAME[0], "--own", GAME[1]]
+        words = ["--tra", NAMED[0], "--sta", NAMED[1], "--lab", GAME[1], "--own", GAME[2]]
         self.assertEqual(call_tool("table", self.cert, *words, "--csv"), (0, TABLE, ""))
         plain = call_tool("table", self.cert, *words)[1].splitlines()
         self.assertEqual(
@@ -213,20 +206,20 @@ class Small(InFolder):
         for options, text in WRITTEN:
             with self.subTest(options=options):
                 self.assertEqual(
-                    call_tool("strategy", self.cert, "--tra", NAMED[0], "--own", GAME[1], *options), (0, text, "")
+                    call_tool("strategy", self.cert, "--tra", NAMED[0], "--own", GAME[2], *options), (0, text, "")
                 )
 
     def test_induced_models(self):
         for side, text in INDUCED:
             with self.subTest(side=side):
                 out = str(self.folder / side)
-                words = ["--tra", NAMED[0], "--lab", GAME[0], "--own", GAME[1], "--side", side, "--induced", out]
+                words = ["--tra", NAMED[0], "--lab", GAME[1], "--own", GAME[2], "--side", side, "--induced", out]
                 self.assertEqual(call_tool("strategy", self.cert, *words)[1], f"{out}.tra\n{out}.lab\n{out}.own\n")
                 written = self.written()
                 self.assertEqual(written[f"{side}.tra"], text)
                 self.assertEqual(
                     [written[f"{side}.{ending}"] for ending in ("lab", "own")],
-                    [Path(name).read_text() for name in GAME],
+                    [Path(name).read_text() for name in GAME[1:]],
                 )
 
     def test_the_model_is_not_written_over(self):
@@ -264,7 +257,9 @@ class Small(InFolder):
     def test_help_and_closed_pipes(self):
         for tool in COMMANDS:
             with self.subTest(tool=tool):
-                self.assertEqual(run_tool(tool, "--help")[0], 0)
+                status, output, errors = run_tool(tool, "--help")
+                self.assertEqual((status, errors), (0, ""))
+                self.assertIn(f"\n    {tool} ", output)
                 said = f"{tool}: unrecognized arguments: --other; {tool} --help says more\n"
                 status, output, errors = run_tool(tool, *["x"] * COMMANDS[tool], "--other")
                 self.assertEqual((status, output), (3, ""))
@@ -289,7 +284,7 @@ class Guarantees(InFolder):
     """What strategies for the game of two players guarantee: 0.65 by throwing, else what the other player leaves."""
 
     def ask(self, text, *more):
-        words = [NAMED[0], GAME[0], FORMULA, "--own", GAME[1], "--sta", NAMED[1]]
+        words = [NAMED[0], GAME[1], FORMULA, "--own", GAME[2], "--sta", NAMED[1]]
         return call_tool("guarantee", *words, "--strategy", self.write("mine", text), *more)
 
     def test_rows(self):
@@ -379,7 +374,7 @@ class OfTheGallery(InFolder):
                     _, output, _ = run(program(), "check", *words, "--workers", "1", "--rounds", "300")
                     self.within(one, output)
                     if one.states() <= 60:
-                        self.exactly_within(one, out)
+                        self.exactly_within(one, [*words[:2], *words[4:]])
 
     def within(self, one, output):
         """The printed bracket of the initial state has a number in common with the certificate's."""
@@ -387,16 +382,16 @@ class OfTheGallery(InFolder):
         lower, upper = (Fraction(one.entries[0][place]) for place in (1, 4))
         self.assertTrue(Fraction(fields[3]) <= upper and lower <= Fraction(fields[5]), output)
 
-    def exactly_within(self, one, out):
-        """The exact values of the induced model lie between the bounds at every state."""
-        values = exact_values(plain_model(out, one.model), one.question)
+    def exactly_within(self, one, names):
+        """The exact values of the induced model of these files lie between the bounds at every state."""
+        values = exact_values(read_files(*(Path(name).read_text() for name in names)).plain(), one.question)
         for state, value in enumerate(values):
             lower, upper = (Fraction(one.entries[state][place]) for place in (1, 4))
             self.assertTrue(lower <= value <= upper, (state, value))
 
 
 def as_csv(row):
-    """A row of the JSON as CSV has it."""
+    """Returns a row of the JSON as CSV has it."""
     return {
         name: " ".join(value) if isinstance(value, list) else "" if value is None else str(value)
         for name, value in row.items()
@@ -404,7 +399,7 @@ def as_csv(row):
 
 
 def entry_of(row):
-    """The fields of a certificate's line that a row of the table was made of."""
+    """Returns the fields of the line of a certificate from which a row of the table was made."""
     move = row["choice"] or "-"
     choice, reply = ("-", move) if row["mover"] == "minimiser" else (move, "-")
     return [row["state"], row["lower"], choice, row["rank"], row["upper"], reply]
@@ -420,14 +415,3 @@ def strategies_of(one):
         named = entry[2 if maximises else 5]
         sides["maximiser" if maximises else "minimiser"].append((state, 0 if named == "-" else int(named)))
     return {side: pairs for side, pairs in sides.items() if pairs}
-
-
-def plain_model(out, model):
-    """A model that was written, with the labels and the players of another, as exact values take it."""
-    made = explicit.read_transitions(f"{out}.tra")
-    choices = []
-    for state in range(made.states):
-        weighted = [(made.edges_of(choice), *made.weighted(choice)) for choice in made.choices_of(state)]
-        rows = [(zip(weights, map(made.successor.__getitem__, edges)), total) for edges, weights, total in weighted]
-        choices.append(rows)
-    return Plain(choices, model.labels, model.players, [model.players[owner] for owner in model.owners])

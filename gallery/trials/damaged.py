@@ -1,4 +1,4 @@
-"""Texts that are damaged: of each kind the line and the cause that docs/FORMATS.md gives, or what the text then means.
+"""Damaged texts are refused with the line and the cause that docs/FORMATS.md gives, or mean what they then say.
 
 Files, a formula or a certificate in drawn spellings are changed in a byte, a field or a line, or not at all. They are
 read apart from the program, and what it has to write is worked out: a refusal, or the answer.
@@ -24,7 +24,7 @@ FIELDS = (
 
 
 def trial(draw, room):
-    """One set of texts, asked of `check` or of `audit`."""
+    """Asks `check` or `audit` about one set of texts."""
     command, plan = draw.choice((("check", False), ("check", True), ("audit", False)))
     found, texts = Found(), drawn_texts(draw, command == "check" and not plan)
     if command == "audit":
@@ -41,7 +41,7 @@ def compare(found, room, texts, command="check", plan=False):
     for name, text in texts.items():
         (room / f"m.{name}").write_bytes(text.encode("latin-1"))
     rest = ["m.certificate"] if command == "audit" else ["--rounds", ROUNDS, "--workers", 1, *["--plan"] * plan]
-    words = words_of(command, texts["formula"].encode("latin-1").decode("utf-8"), *rest)
+    words = words_of(command, spoken(texts["formula"]), *rest)
     status, output = expected(texts, command, plan, room)
     ran = run(room, *words)
     found.counts[" ".join(output.split()[:2]) if output and status > 2 else "answers" if output else "large ones"] += 1
@@ -50,7 +50,7 @@ def compare(found, room, texts, command="check", plan=False):
 
 
 def drawn_texts(draw, any_path):
-    """Files of a game and a formula, mostly one that has a certificate if not any may stand there."""
+    """Draws the files of a game and a formula. Unless any path is allowed, the formula mostly has a certificate."""
     model, any_path = drawn_game(draw, 2, 5, draw.random() < 0.5), any_path or draw.random() < 0.1
     paths, depth = (ALL_PATHS, draw.choice((0, 1, 2))) if any_path else ((*ENDLESS, "G"), 0)
     formula = drawn_formula(draw, paths, depth).formula()
@@ -66,7 +66,7 @@ def drawn_texts(draw, any_path):
 
 
 def certificate_for(texts):
-    """What `check --plan` writes of these texts, or a text that is no certificate where the formula has none."""
+    """Returns what `check --plan` writes about these texts, or an empty certificate if the formula can have none."""
     try:
         return checked(files_of(texts), texts["formula"], ROUNDS, True)[1]
     except Refusal:
@@ -77,8 +77,8 @@ def files_of(texts):
     return read_files(texts["tra"], texts["lab"], texts["own"])
 
 
-def damaged(draw, text, is_formula):
-    """The text with another byte, another field or another line, or cut off."""
+def damaged(draw, text, is_formula, fields=FIELDS):
+    """Returns the text cut off, or with another byte, another line, or one of these fields in place of another."""
     place, kind = draw.randrange(len(text) + 1), draw.random()
     if kind < 0.4:
         byte = draw.choice(BYTES)
@@ -88,20 +88,25 @@ def damaged(draw, text, is_formula):
     else:
         mark = "\n" if kind > 0.8 else " "
         parts = text.split(mark)
-        changed = mark.join(changed_parts(draw, parts, mark))
+        changed = mark.join(changed_parts(draw, parts, mark, fields))
     return as_word(changed) if is_formula else changed
 
 
 def as_word(text):
-    """A text that can be a word of a command line, and is no option."""
+    """Returns a text that can be a word of a command line and is no option."""
     return ("" if text[:1] != "-" else " ") + text.replace("\0", "@").encode("utf-8").decode("latin-1")
 
 
-def changed_parts(draw, parts, mark):
-    """Fields or lines of which one is another, is gone, or stands twice or elsewhere."""
+def spoken(formula):
+    """Returns the word of a command line whose bytes are the characters of this text."""
+    return formula.encode("latin-1").decode("utf-8")
+
+
+def changed_parts(draw, parts, mark, fields):
+    """Changes, removes, repeats or moves one of the fields or lines."""
     place, kind = draw.randrange(len(parts)), draw.random()
     if kind < 0.5:
-        other = draw.choice(FIELDS) if mark == " " else draw.choice(("", " ", "x", draw.choice(parts)))
+        other = draw.choice(fields) if mark == " " else draw.choice(("", " ", "x", draw.choice(parts)))
         return [*parts[:place], other, *parts[place + 1 :]]
     if kind < 0.65:
         return parts[:place] + parts[place + 1 :]
@@ -109,7 +114,7 @@ def changed_parts(draw, parts, mark):
 
 
 def expected(texts, command, plan, room):
-    """The status and the output; there is none where the answer is not worked out: of a large game, or many steps."""
+    """Returns the status and the output, which is empty if the game is too large or the steps are too many to try."""
     try:
         files = files_of(texts)
         if command == "audit":

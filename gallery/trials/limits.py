@@ -1,4 +1,4 @@
-"""Texts at a limit and one beyond it: numbers of lines, names, digits and bytes, how deep formulas stand, and sums.
+"""Texts stand at a limit and just beyond it: of lines, names, digits, bytes, the depth of formulas, and sums.
 
 Nothing is drawn: a trial goes over all rows.
 """
@@ -10,11 +10,12 @@ GAME = "2 2 3\n0 0 0 1/2\n0 0 1 1/2\n1 0 1 1\n"
 LABELS = '0="init" 1="one"\n0: 0\n1: 1\n'
 OWNERS = '0="a" 1="b"\n1: 1\n'
 FORMULA = 'Pmax=? [ F "one" ]'
+TEXTS = {"tra": GAME, "lab": LABELS, "own": OWNERS, "formula": FORMULA}
 COUNT = 1
 
 
 def rows():
-    """Names of texts with what stands there in place of the plain one."""
+    """Yields the name of a text and what replaces the plain one."""
     for choices in (16_384, 16_385):
         yield "tra", f"1 {choices} {choices}\n" + "".join(f"0 {choice} 0 1\n" for choice in range(choices))
     for header in ("1000001 1 1", "2 4000001 3", "2 2 8000001", "2 4000000 3", "2 8000001", "2 8000000", "0 0 9000000"):
@@ -40,20 +41,20 @@ def rows():
 
 
 def numbers():
-    """Numbers with as many digits, and as small a unit, as may be, and beyond."""
+    """Yields numbers with as many digits or as fine as is allowed, and beyond."""
     yield from ("0." + "0" * 29, "0." + "0" * 30, "0" * 29 + "1", "0" * 30 + "1", f"{'0' * 29}1/2", f"{'0' * 30}1/2")
     yield from ("0.5e-99", "0e-99", "0e-100", "0e99", "0e100", "0e0000", "1e-23", "1e-24", "1.9", "2", "2.1")
     yield from (f"1/{10**23}", f"1/{10**23 + 1}")
 
 
 def sums():
-    """Two probabilities whose sum misses 1 by as much as may be, and by more."""
+    """Yields two probabilities whose sum misses 1 by as much as is allowed, and by more."""
     yield from (("0.5", "0.50001"), ("0.5", "0.500011"), ("0.5", "0.49999"), ("0.5", "0.499989"), ("1", "0"))
     yield from ((f"1/{10**12 - 1}", f"{10**12 - 2}/{10**12 - 1}"), (f"1/{10**12 - 1}", f"{10**13 - 2}/{10**13 - 1}"))
 
 
 def formulas():
-    """Formulas as long and as deep as may be, and beyond; steps, thresholds and names."""
+    """Yields formulas at the limits of length, depth, steps, thresholds and names, and beyond."""
     for many in (4_096, 4_097):
         yield FORMULA + " " * (many - len(FORMULA))
     for open_ones in (64, 65):
@@ -63,7 +64,10 @@ def formulas():
         yield f'Pmax=? [ F {"!(" * (open_ones // 2)}{"!" * (open_ones % 2)}"one"{")" * (open_ones // 2)} ]'
     for steps in (1_000_000, 1_000_001, 10**30):
         yield f'Pmax=? [ F<={steps} "one" ]'
+    yield "Pmax=? [ F " + '"one" & ' * 400 + '"one" ]'
     for limit in ("1", "1.0000", "1.00001", "2", "3", "1/1", "0" * 30, "0" * 31, "1e-23", "1e-24", "1/0"):
+        yield f'P>={limit} [ F "one" ]'
+    for limit in ("0.6" + "0" * 28, "0.6" + "0" * 29, "6e-01", "6e-0001", "0e-99", "0e-100", "00/1", "0/0"):
         yield f'P>={limit} [ F "one" ]'
     for many in (255, 256):
         yield f'Pmax=? [ F "{"x" * many}" ]'
@@ -71,8 +75,8 @@ def formulas():
 
 
 def trial(_, room):
-    """All rows, each asked of `check`."""
+    """Asks `check` about each row."""
     found = Found()
     for name, text in rows():
-        compare(found, room, {"tra": GAME, "lab": LABELS, "own": OWNERS, "formula": FORMULA, name: text})
+        compare(found, room, {**TEXTS, name: text})
     return found

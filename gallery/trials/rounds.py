@@ -9,7 +9,7 @@ from whole import UNIT, swapped, sweep, zero_states
 
 @dataclass
 class Bracket:
-    """The bounds, what vouches for them, and how many rounds were made."""
+    """The bounds, what proves them, and how many rounds were made."""
 
     lower: list
     choices: list

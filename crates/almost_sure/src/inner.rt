@@ -33,8 +33,8 @@ impl Bars for BarsGone<'_> {
     }
 }
 
-/// Gives the inner set when these states are gone: it grows backward from the goals, by choices that stay in the outer
-/// set.
+/// Returns the inner set when these states are gone: it grows backward from the goals, by choices that stay in the
+/// outer set.
 pub fn inner_set(
     alloc: Global,
     question: &Question,

@@ -1,4 +1,4 @@
--- This file says which problem texts and words ask, as a relation.
+-- This module says which problem texts and words ask, as a relation.
 use Rattle.std.specs.Prelude.{◌≡◌, ◌≤◌, ℕ, true, List, length, Option, Some, None}
 use Rattle.text_lines.specs.Limits.{most_bytes}
 use Rattle.game_model.specs.Game.{Distribution}

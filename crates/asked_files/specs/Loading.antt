@@ -1,4 +1,4 @@
--- This file says what loading answers for the texts that it reads.
+-- This module says what loading answers for the texts that it reads.
 use Rattle.std.specs.Prelude.{◌≡◌, ◌<◌, ◌≤◌, ◌+◌, ◌⊎◌, ℕ, Bool, true, List, Option, Result, Ok, Err, IsErrOf}
 use Rattle.text_lines.specs.Limits.{most_bytes}
 use Rattle.game_outside.specs.Limits.{piece_size}

@@ -1,4 +1,4 @@
--- This file defines the problem that the words and the texts of a command pose, or their first refusal.
+-- This module defines the problem that the words and the texts of a command pose, or their first refusal.
 use Rattle.std.specs.Prelude.{◌≡◌, ◌&&◌, ℕ, Bool, List, length, if◌then◌else◌}
 use Rattle.game_model.specs.Game.{Distribution}
 use Rattle.label_lines.specs.Labels.{Labelling}

@@ -1,4 +1,4 @@
--- This file says what a formula asks of a game, and which formulas a command takes.
+-- This module says what a formula asks of a game, and which formulas a command takes.
 use Rattle.std.specs.Prelude.{◌≡◌, ◌&&◌, ℕ, Bool, true, false, List, length, Option, Some, None, if◌then◌else◌}
 use Rattle.game_model.specs.Game.{Distribution}
 use Rattle.game_model.specs.Query.{states}

@@ -1,4 +1,4 @@
--- This file says what becomes of the texts under the names of a command, of the text of a certificate, and of that of
+-- This module says what becomes of the texts under the names of a command, of the text of a certificate, and of that of
 -- values to begin with.
 use Rattle.std.specs.Prelude.{◌≡◌, ◌<◌, ℕ, List, length, Option, Some, None}
 use Rattle.text_lines.specs.Limits.{most_bytes}

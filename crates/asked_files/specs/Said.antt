@@ -1,4 +1,4 @@
--- This file says what the texts of a run say, one after another.
+-- This module says what the texts of a run say, one after another.
 use Rattle.std.specs.Prelude.{Result, Ok, Err}
 use Rattle.run_refusals.specs.declared.refusal.Refusal.{Refusal}
 

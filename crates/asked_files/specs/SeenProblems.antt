@@ -1,4 +1,4 @@
--- This file says what contracts see of a problem that was posed.
+-- This module says what contracts see of a problem that was posed.
 use Rattle.std.specs.Prelude.{◌≡◌, Some, None, Ok}
 use Rattle.formula_reader.specs.declared.formula.PathKind.{PathKind}
 use Rattle.formula_reader.specs.declared.formula.PathKind.TheVariants as kind_of

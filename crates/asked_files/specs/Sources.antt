@@ -1,4 +1,4 @@
--- This file defines the texts of the question that a command names.
+-- This module defines the texts of the question that a command names.
 use Rattle.std.specs.Prelude.{◌≡◌, ℕ, List, Option, Some, None}
 use Rattle.game_outside.specs.Outside.{Holding}
 use Rattle.command_words.specs.Words.{Asked}

@@ -33,8 +33,8 @@ pub record Awaits (q : Query) (barred : Barred) (followed : List Move) (members 
   pub before : (c : ℕ) → c < choice → serves barred members (choice_of q.game s c) ≡ true
   pub still : barred.choices (choice_of q.game s choice) ≡ false → ¬ Contains followed (move s choice)
 
--- The state is no member. If it is the maximiser's, each of its choices that was followed is barred. If it is the
--- minimiser's, it waits for a choice.
+-- This holds of a state that is no member. If it is the maximiser's, each of its choices that was followed is barred.
+-- If it is the minimiser's, it waits for a choice.
 pub record IsLeft (q : Query) (barred : Barred) (followed : List Move) (members : List Bool) (awaited : List ℕ)
     (s : ℕ) : Type 0 where
   pub greatest : side_at q s ≡ Max → (c : ℕ) → c < length (choices_of q.game s)

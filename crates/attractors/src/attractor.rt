@@ -18,8 +18,8 @@ use std::alloc::Global;
 /// there are at most this many passes over all states.
 const SHARE: usize = 16;
 
-/// Gives the attractor of the goals, with chance on the maximiser's side, from the predecessors in the question's game.
-/// The only error is that memory ran out.
+/// Returns the attractor of the goals, with chance on the maximiser's side, from the predecessors in the question's
+/// game. The only error is that memory ran out.
 pub fn attractor_of<S: Bars>(
     alloc: Global,
     question: &Question,

@@ -7,7 +7,7 @@ ghost use Rattle.attractors.specs.Attractor.{Barred, dead_barred};
 
 use game_model::Question;
 
-/// This bars states and choices of a question.
+/// A type with this trait bars states and choices of a question.
 pub trait Bars {
     /// It can be used for this question.
     ghost fits: { Self → Query → Type 0 };
@@ -15,13 +15,13 @@ pub trait Bars {
     /// It bars these states and choices.
     ghost barred: { Self → Query → Barred };
 
-    /// Says whether a state is barred.
+    /// Returns whether a state is barred.
     fn bars_state(&self, question: &Question, state: u32) -> bool
         requires fits { fits self.now question.now }
         requires state { state < states question.now }
         ensures { result ≡ (barred self.now question.now).states state };
 
-    /// Says whether a choice of a state is barred.
+    /// Returns whether a choice of a state is barred.
     fn bars_choice(&self, question: &Question, state: u32, choice: u32) -> bool
         requires fits { fits self.now question.now }
         requires state { state < states question.now }

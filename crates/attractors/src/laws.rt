@@ -1,4 +1,4 @@
-//! These are laws of attractors. Each function does nothing: its contract is the law.
+//! This module has the laws of attractors. Each function does nothing: its contract is the law.
 
 ghost use Rattle.std.specs.Prelude.{◌≡◌, ℕ, ◌<◌, Bool, List, true, false, slice_index_or};
 ghost use Rattle.game_model.specs.Query.{Query, states, is_goal};

@@ -10,8 +10,8 @@ use crate::bars::Bars;
 use game_model::Question;
 use std::alloc::{AllocError, Global};
 
-/// Gives the first choice of a state, from this one on, that is barred or has no successor in the set. If there is
-/// none, it gives the number of choices.
+/// Returns the first choice of a state, from this one on, that is barred or has no successor in the set. If there is
+/// none, it returns the number of choices.
 pub fn first_unserved<S: Bars>(
     question: &Question,
     bars: &S,
@@ -39,7 +39,7 @@ pub fn first_unserved<S: Bars>(
     count
 }
 
-/// Says whether some choice of a state serves.
+/// Returns whether some choice of a state serves.
 pub fn some_serves<S: Bars>(question: &Question, bars: &S, set: &[bool], state: u32) -> bool
     requires fits { S.fits bars.now question.now }
     requires state { state < states question.now }
@@ -54,7 +54,7 @@ pub fn some_serves<S: Bars>(question: &Question, bars: &S, set: &[bool], state: 
     false
 }
 
-/// Says whether the choice is not barred and has a successor in the set.
+/// Returns whether the choice is not barred and has a successor in the set.
 pub fn serves<S: Bars>(question: &Question, bars: &S, set: &[bool], state: u32, choice: u32) -> bool
     requires fits { S.fits bars.now question.now }
     requires state { state < states question.now }
@@ -65,7 +65,7 @@ pub fn serves<S: Bars>(question: &Question, bars: &S, set: &[bool], state: u32, 
     !bars.bars_choice(question, state, choice) && meets(question, set, state, choice)
 }
 
-/// Says whether some successor of the choice is in the set.
+/// Returns whether some successor of the choice is in the set.
 pub fn meets(question: &Question, set: &[bool], state: u32, choice: u32) -> bool
     requires state { state < states question.now }
     requires choice { choice < length (choices_of question.now.game state) }

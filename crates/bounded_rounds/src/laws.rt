@@ -1,4 +1,4 @@
-//! These are laws of sweeps. Each function does nothing: its contract is the law.
+//! This module has the laws of sweeps. Each function does nothing: its contract is the law.
 
 ghost use Rattle.std.specs.Prelude.{◌≡◌};
 ghost use Rattle.bounded_rounds.specs.Limits.{most_steps, most_workers};

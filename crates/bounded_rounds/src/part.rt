@@ -52,7 +52,7 @@ fn look_ahead(tables: Tables<'_>, from: u32, to: u32) -> bool
     game.states() > MOST_NEAR && has_excess(tables.table, game.successors_between(from, to))
 }
 
-/// Says whether an entry of these states is above the unit.
+/// Returns whether an entry of these states is above the unit.
 fn has_excess(table: &[Bounds], wanted: &[u32]) -> bool
     requires inside { All (λ s. s < length table.now) wanted.now }
     requires units { All AreUnits table.now }
@@ -95,7 +95,7 @@ fn step_stretch<G: Gate>(
     changed
 }
 
-/// Gives the step of both bounds of a state, and whether one of them is not the entry there.
+/// Returns the step of both bounds of a state, and whether one of them is not the entry there.
 fn step_state(tables: Tables<'_>, state: u32) -> (Bounds, bool)
     requires { state < states tables.question.now }
     ensures down { result.0.lower ≡ down_step tables.entry.question.now

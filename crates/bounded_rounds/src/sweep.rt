@@ -29,7 +29,7 @@ pub struct Sweep {
     pub upper: Vec<u64>,
 }
 
-/// Gives the tables after exactly `steps` steps from an opening table: down steps for the lower one, up steps for the
+/// Returns the tables after exactly `steps` steps from an opening table: down steps for the lower one, up steps for the
 /// upper one. They are the same for every number of workers and every schedule. With no steps both are the opening
 /// table. The only error is that memory ran out.
 ///
@@ -60,7 +60,7 @@ pub fn bounded<R: Threads + Sync, G: Gate + Sync>(
     Ok(parted(alloc, &table)?)
 }
 
-/// Gives the opening table as lower and upper bounds.
+/// Returns the opening table as lower and upper bounds.
 fn open(alloc: Global, opening: &[u64]) -> Result<Vec<Bounds>, AllocError>
     ensures { IfOk result (λ table. table.items ≡ opened opening.now) }
 {
@@ -73,7 +73,7 @@ fn open(alloc: Global, opening: &[u64]) -> Result<Vec<Bounds>, AllocError>
         .collect(alloc)
 }
 
-// Gives the bounds as a lower and an upper table.
+// Returns the bounds as a lower and an upper table.
 fn parted(alloc: Global, table: &[Bounds]) -> Result<Sweep, AllocError>
     ensures lower { IfOk result (λ sweep. sweep.lower.items ≡ lowers table.now) }
     ensures upper { IfOk result (λ sweep. sweep.upper.items ≡ uppers table.now) }
@@ -114,7 +114,7 @@ fn iterate<R: Threads + Sync, G: Gate + Sync>(
     table
 }
 
-/// Fills the next table by `workers` workers. Says whether one of its entries is not the same as before.
+/// Fills the next table by `workers` workers. Returns whether one of its entries is not the same as before.
 fn step<R: Threads + Sync, G: Gate + Sync>(
     rt: &R,
     question: &Question,
@@ -134,7 +134,7 @@ fn step<R: Threads + Sync, G: Gate + Sync>(
     step_chunks(rt, tables, gate, size, 0, next)
 }
 
-/// Says how many workers a step after the first has: one, and one more for each `EDGES_FOR_A_WORKER` edges.
+/// Returns how many workers a step after the first has: one, and one more for each `EDGES_FOR_A_WORKER` edges.
 fn busy_workers(question: &Question, workers: u32) -> u32
     requires { 1 ≤ workers }
     ensures some { 1 ≤ result }

@@ -1,4 +1,4 @@
-//! This module finds the values of k steps: the steps from the table that iteration opens with.
+//! This module finds bounds of the k-step values: rounded steps from the table that iteration opens with.
 
 ghost use Rattle.std.specs.Prelude.{◌≡◌, ◌≤◌, ◌<◌, ℕ, length, slice_index, All, IfOk};
 ghost use Rattle.game_model.specs.Query.{states};
@@ -13,8 +13,8 @@ use game_outside::{Gate, OutOfMemory};
 use std::alloc::{AllocError, Global};
 use std::thread::Threads;
 
-/// Gives what [`bounded`] gives from the table that iteration opens with. Exact steps from this table give the values
-/// of k steps. The only error is that memory ran out.
+/// Returns what [`bounded`] returns from the table that iteration opens with. Exact steps from this table give the
+/// k-step values. The only error is that memory ran out.
 pub fn bounded_values<R: Threads + Sync, G: Gate + Sync>(
     rt: &R,
     alloc: Global,
@@ -35,7 +35,7 @@ pub fn bounded_values<R: Threads + Sync, G: Gate + Sync>(
     bounded(rt, alloc, question, &table, steps, workers, gate)
 }
 
-/// Gives the table that iteration opens with: the unit at a goal, else 0.
+/// Returns the table that iteration opens with: the unit at a goal, else 0.
 fn opening_of(alloc: Global, question: &Question) -> Result<Vec<u64>, AllocError>
     ensures many { IfOk result (λ table. length table.items ≡ states question.now) }
     ensures units { IfOk result (λ table. All (λ v. v ≤ unit) table.items) }

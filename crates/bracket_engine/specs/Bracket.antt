@@ -1,5 +1,6 @@
 -- A run of rounds gives a sound lower table, the base, and a sound upper table. These definitions say how near the
--- tables are to the values of r steps. The swapped values are lower bounds of the swapped question.
+-- tables are to the r-step values and to the values of not being lost after r steps. The swapped values are lower
+-- bounds of the swapped question.
 use Rattle.std.specs.Prelude.{◌≡◌, ℕ, ◌+◌, ◌-◌, ◌*◌, ◌^◌, ◌<◌, ◌≤◌, ◌↔◌, ◌⊎◌, Bool, true, List, length, All, map, min}
 use Rattle.std.specs.Prelude.{slice_index, Option, None, IfSome}
 use Rattle.game_model.specs.Query.{Query, states}
@@ -13,7 +14,7 @@ use Rattle.verdicts.specs.Verdict.{is_asking}
 use Rattle.bracket_engine.specs.declared.stopping.SettlingGuess.{SettlingGuess}
 use Rattle.bracket_engine.specs.Stop.{AreSettledAt, EndsWhereSettled, IsSettlingGuess, IsUpperFrom}
 
--- Each entry is at most r units below the value of r steps.
+-- Each entry is at most r units below the r-step value.
 abbrev pub IsCloseBelow : Query → ℕ → (ℕ → ℕ) → Type 0
 IsCloseBelow q r table = (s : ℕ) → s < states q → unit * numerator q r s ≤ (table s + r) * denominator q.game ^ r
 
@@ -42,8 +43,8 @@ pub record IsLeastSettled (q : Query) (table : ℕ → ℕ) : Type 0 where
   pub settled : IsSettled q table
   pub least : (other : ℕ → ℕ) → IsBelow q (opening q) other → IsSettled q other → IsBelow q table other
 
--- The lower and upper bounds are near the values of r steps. The lower table is nowhere below r down steps. The upper
--- table is nowhere above the unit less r down steps of the swapped question.
+-- The lower table is near the r-step values and nowhere below r down steps. The upper table is near the values of not
+-- being lost after r steps, and nowhere above the unit less r down steps of the swapped question.
 pub record IsNarrow (q : Query) (zero : List Bool) (r : ℕ) (lower upper : ℕ → ℕ) : Type 0 where
   pub swept : IsBelow q (down_steps q r) lower
   pub near : IsCloseBelow q r lower
@@ -88,8 +89,8 @@ pub record AreNear (q : Query) (zero : List Bool) (bound : Bound) (initial : Lis
   pub narrow_asked : AreSettledAt bound initial (slice_index base) (slice_index upper)
       ⊎ IsNarrow q zero asked (slice_index base) (slice_index upper)
 
--- The run ends early only if both tables are settled or each initial state is settled, and it ends in time. Settled
--- tables are the least settled ones.
+-- The run ends early only if the base and the swapped values are settled, or if each initial state is settled. It ends
+-- in time, as `EndsWhereSettled` says. Settled tables are the least settled ones.
 pub record HasEnded (q : Query) (zero : List Bool) (bound : Bound) (initial : List ℕ) (asked : ℕ)
     (base swapped_values upper : List ℕ) (rounds : ℕ) (stable : Bool) : Type 0 where
   pub early : rounds < asked → (stable ≡ true) ⊎ AreSettledAt bound initial (slice_index base) (slice_index upper)
@@ -100,7 +101,7 @@ pub record HasEnded (q : Query) (zero : List Bool) (bound : Bound) (initial : Li
   pub swapped_least : stable ≡ true → IsLeastSettled (swapped q zero) (slice_index swapped_values)
 
 -- A bracket of a question with this zero set has sound tables. It says what the upper table is made from, how near the
--- tables are after so many of the asked rounds, and how the run ended.
+-- tables are after this many of the asked rounds, and how the run ended.
 pub record IsBracket (q : Query) (zero : List Bool) (bound : Bound) (initial : List ℕ) (asked : ℕ) (base upper : List ℕ)
     (rounds : ℕ) (stable : Bool) : Type 0 where
   pub sound : AreSoundBounds q base upper

@@ -1,6 +1,6 @@
--- A run has a limit. The constant of the code is equal to it: `laws::limits`.
+-- This module defines the limit of a run as a number. The constant of the code is equal to it: `laws::limits`.
 use Rattle.std.specs.Prelude.{ℕ}
 
--- At most so many rounds may be asked for.
+-- At most this many rounds may be asked for.
 abbrev pub most_rounds : ℕ
 most_rounds = 1000000

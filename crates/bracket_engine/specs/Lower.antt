@@ -1,4 +1,4 @@
--- A bracket has a lower table.
+-- This module defines the lower table of a bracket, and what proves it.
 use Rattle.std.specs.Prelude.{◌≡◌, ℕ, ◌≤◌, Bool, List, length, All, slice_index, Option}
 use Rattle.game_model.specs.Query.{Query, states}
 use Rattle.game_model.specs.Limits.{unit}

@@ -1,4 +1,4 @@
--- A bracket has replies of the minimiser.
+-- This module defines the replies of the minimiser in a bracket.
 use Rattle.std.specs.Prelude.{ℕ, List, slice_index, Option}
 use Rattle.game_model.specs.Query.{Query}
 use Rattle.inductive_check.specs.Replies.{AreReplies, AreFirstReplies, HoldsUnder}

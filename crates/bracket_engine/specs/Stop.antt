@@ -1,4 +1,5 @@
--- A guess that settles the threshold at the initial states may end a run before the asked rounds.
+-- This module defines the guesses that may end a run before the asked rounds: they settle the threshold at the initial
+-- states.
 use Rattle.std.specs.Prelude.{◌≡◌, ℕ, ◌-◌, ◌<◌, ◌≤◌, Bool, true, false, List, length, All, Option, Some, None, min}
 use Rattle.std.specs.Prelude.{slice_index, IfSome}
 use Rattle.std.specs.Int.{is_power_of_two}
@@ -14,9 +15,9 @@ use Rattle.bracket_engine.specs.declared.stopping.SettlingGuess.{SettlingGuess}
 abbrev pub AreSettledAt : Bound → List ℕ → (ℕ → ℕ) → (ℕ → ℕ) → Type 0
 AreSettledAt bound initial lower upper = All (λ s. is_settling (verdict_of bound (lower s) (upper s)) ≡ true) initial
 
--- A run of so many rounds goes on no longer than it has to. If the bound is a threshold, the run is over by the first
--- of the rounds 1, 2, 4, 8 and so on after which as many down steps of its question and of the swapped question settle
--- the threshold at each of these states.
+-- A run of this many rounds goes on no longer than it has to. If the bound is a threshold, let r be the first of the
+-- numbers 1, 2, 4, 8 and so on for which r down steps of the question and of the swapped question settle the threshold
+-- at each of these states. Then at most r rounds are made.
 abbrev pub EndsWhereSettled : Query → Query → Bound → List ℕ → ℕ → Type 0
 EndsWhereSettled q swapped_question bound initial rounds =
     is_asking bound ≡ false → (r : ℕ) → is_power_of_two r ≡ true

@@ -1,4 +1,4 @@
-//! Both sides of a bracket are made over a base.
+//! This module has the base over which both sides of a bracket are made.
 
 ghost use Rattle.std.specs.Prelude.{◌≡◌, ◌≤◌, length, All};
 ghost use Rattle.game_model.specs.Limits.{unit};

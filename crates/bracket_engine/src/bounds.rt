@@ -1,9 +1,9 @@
-//! A run gives a bracket.
+//! This module has the bracket that a run gives.
 
-/// A bracket has a lower and an upper bound in units for each state, choices of the maximiser with ranks that prove the
-/// lower bounds, replies of the minimiser that hold the maximiser to the upper bounds, the number of completed rounds,
-/// and whether the tables are settled. They are settled if no state's down value is above its entry, in the base and in
-/// the table of swapped values, which are lower bounds of the swapped question.
+/// A bracket has a lower and an upper bound in units for each state. It has choices of the maximiser with ranks that
+/// prove the lower bounds, and replies of the minimiser that hold the maximiser to the upper bounds. It also has the
+/// number of completed rounds, and says whether the run is settled. The run is settled if no state's down value is
+/// above its entry, in the base and in the table of swapped values, which are lower bounds of the swapped question.
 #[derive(Drop)]
 pub struct Bracket {
     /// The rounds reach this table from below: for some k, each entry is at most the k-step value of its state.
@@ -18,8 +18,8 @@ pub struct Bracket {
     pub ranks: Vec<u32>,
     /// The minimiser has a choice for each of its states that is neither goal nor dead.
     pub replies: Vec<Option<u32>>,
-    /// So many rounds were completed on both tables.
+    /// This many rounds were completed on the question and on the swapped question.
     pub rounds: u32,
-    /// This says whether both tables are settled.
+    /// This says whether the run is settled.
     pub stable: bool,
 }

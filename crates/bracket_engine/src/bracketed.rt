@@ -28,8 +28,8 @@ pub struct Bracketed {
     pub bracket: Bracket,
 }
 
-/// Gives the zero set of a question, and the bracket of [`bracket_over`](crate::bracket_over) for a bound. The run may
-/// end when the bound is settled at each initial state. The only error is that memory ran out.
+/// Returns the zero set of a question, and the bracket of [`bracket_over`](crate::bracket_over) for a bound. The run
+/// may end when the bound is settled at each initial state. The only error is that memory ran out.
 pub fn bracket_for<R: Threads + Sync, G: Gate + Sync>(
     rt: &R,
     alloc: Global,

@@ -1,4 +1,4 @@
-//! The bracket is made after the races are over.
+//! This module makes the bracket after the races are over.
 
 ghost use Rattle.std.specs.Prelude.{◌≡◌, ◌↔◌, ◌≤◌, true, length, slice_index, All, IfOk};
 ghost use Rattle.game_model.specs.Query.{states};
@@ -77,7 +77,7 @@ pub fn bracket_of<R: Threads + Sync, F: Fn(u64, u64) -> bool, G: Gate + Sync>(
     })
 }
 
-// Says whether both tables are settled. They are if the last round changed nothing on either.
+// Returns whether the run is settled. If the last round changed nothing on either question, no table is tested.
 fn is_stable(
     question: &Question,
     swapped_question: &Question,

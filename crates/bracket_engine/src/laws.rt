@@ -1,4 +1,4 @@
-//! These are laws of brackets.
+//! This module has the laws of brackets.
 
 ghost use Rattle.std.specs.Prelude.{◌≡◌, ℕ, List, Bool, Option, true};
 ghost use Rattle.game_model.specs.Query.{Query};

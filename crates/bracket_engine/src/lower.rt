@@ -1,4 +1,4 @@
-//! The lower side of a bracket is made here: the lower table, the maximiser's choices, and the ranks.
+//! This module makes the lower side of a bracket: the lower table, the maximiser's choices, and the ranks.
 
 ghost use Rattle.std.specs.Prelude.{◌≡◌, IfOk};
 ghost use Rattle.game_model.specs.Dual.{IsZeroSet};

@@ -23,7 +23,7 @@ pub struct Raced {
     pub words: Words,
     /// These are the words of the swapped question.
     pub swapped_words: Words,
-    /// So many rounds were completed on each.
+    /// This many rounds were completed on each.
     pub rounds: u32,
     /// This says whether the last round changed nothing on either.
     pub quiet: bool,

@@ -15,9 +15,9 @@ pub struct Rounds<'a, R: Threads + Sync, F: Fn(u64, u64) -> bool, G: Gate + Sync
     pub team: &'a Team<'a, R>,
     /// This is the question, with what may end its run.
     pub ending: &'a Ending<'a, F>,
-    /// At most so many rounds are made.
+    /// At most this many rounds are made.
     pub most: u32,
-    /// A round has at most so many workers.
+    /// A round has at most this many workers.
     pub workers: u32,
     /// A worker passes this gate before each state.
     pub gate: &'a G,

@@ -1,4 +1,4 @@
-//! The rounds of a question are run here.
+//! This module runs the rounds of a question.
 
 ghost use Rattle.std.specs.Prelude.{◌≡◌, ◌≤◌, ◌<◌, All, IfOk};
 ghost use Rattle.game_model.specs.Query.{states};
@@ -25,16 +25,16 @@ use std::marker::Brand;
 use std::thread::Threads;
 use verdicts::StopRule;
 
-/// At most so many rounds may be asked for.
+/// At most this many rounds may be asked for.
 pub const MOST_ROUNDS: u32 = 1_000_000;
 
-/// Gives the bracket after at most `rounds` rounds. Each round has at most `workers` workers, who pass the gate before
-/// each state. The marks are the question's zero set. The only error is that memory ran out.
+/// Returns the bracket after at most `rounds` rounds. Each round has at most `workers` workers, who pass the gate
+/// before each state. The marks are the question's zero set. The only error is that memory ran out.
 ///
 /// A round updates the lower table and then the swapped values, which are lower bounds of the swapped question. The run
-/// ends early if both tables are settled. After 1, 2, 4, 8 and so on rounds a guess is made over the lower bounds, and
-/// the run ends if the rule is settled at each initial state by two bounds: the lower bound, and the lesser of the
-/// guess and of the unit less the swapped value.
+/// ends early if both are settled. After 1, 2, 4, 8 and so on rounds a guess is made over the lower bounds. The run
+/// ends if two bounds settle the rule at each initial state: the lower bound, and the lesser of the guess and of the
+/// unit less the swapped value.
 ///
 /// The base is the last lower table. The lower table is the lower guess of the base, which can find a value that only
 /// the limit reaches, and no number of rounds. The upper table is the least of the unit less the swapped values, of the
@@ -73,7 +73,7 @@ pub fn bracket<R: Threads + Sync, F: Fn(u64, u64) -> bool, G: Gate + Sync>(
     )
 }
 
-/// Gives the bracket of [`bracket`] for a caller that has the lists of predecessors of the question's game. The only
+/// Returns the bracket of [`bracket`] for a caller that has the lists of predecessors of the question's game. The only
 /// error is that memory ran out.
 pub fn bracket_over<R: Threads + Sync, F: Fn(u64, u64) -> bool, G: Gate + Sync>(
     rt: &R,

@@ -46,10 +46,10 @@ impl<F: Fn(u64, u64) -> bool> Ending<'_, F> {
     ghost use Rattle.verdicts.specs.Stop.{bound_of, IsStopRule};
     ghost use Rattle.bracket_engine.specs.Stop.{AreSettledAt, upper_from, IsSettlingGuess};
 
-    /// After 1, 2, 4, 8 and so on rounds, gives the guess over the lower bounds if the guess and the swapped values
-    /// settle the threshold at each initial state. It gives one after such a round if the lower bounds and the swapped
-    /// values settle the threshold without it. If the bound asks for a value, it makes no guess, since no rule could
-    /// use it. The team fills the tables of the guess.
+    /// After 1, 2, 4, 8 and so on rounds, returns the guess over the lower bounds if the guess and the swapped values
+    /// settle the threshold at each initial state. It returns one after such a round if the lower bounds and the
+    /// swapped values settle the threshold without it. If the bound asks for a value, it makes no guess, since no rule
+    /// could use it. The team fills the tables of the guess.
     pub fn asked_after<R: Threads + Sync>(
         &self,
         team: &Team<'_, R>,
@@ -81,7 +81,7 @@ impl<F: Fn(u64, u64) -> bool> Ending<'_, F> {
         self.settling_guess(team, alloc, lower, swapped_values, witnesses)
     }
 
-    /// Gives the guess over the lower bounds if the guess and the swapped values settle the threshold at each initial
+    /// Returns the guess over the lower bounds if the guess and the swapped values settle the threshold at each initial
     /// state.
     fn settling_guess<R: Threads + Sync>(
         &self,
@@ -113,7 +113,8 @@ impl<F: Fn(u64, u64) -> bool> Ending<'_, F> {
         Ok(Some(SettlingGuess { lower, guess }))
     }
 
-    /// Says whether the rule says yes at each initial state, to the lower bound and the lesser of the two upper bounds.
+    /// Returns whether the rule says yes at each initial state, to the lower bound and the lesser of the two upper
+    /// bounds.
     fn settles(&self, lower: &[u64], swapped_values: &[u64], guess: &[u64]) -> bool
         requires rule { IsStopRule F.Fn self.now.rule.now }
         requires lower { length lower.now ≡ states self.now.question.now }

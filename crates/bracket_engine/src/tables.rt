@@ -11,7 +11,7 @@ use game_outside::OutOfMemory;
 use std::alloc::Global;
 use step_core::{choice_of, value_of};
 
-/// Gives the unit less each value.
+/// Returns the unit less each value.
 pub fn complements(alloc: Global, values: &[u64]) -> Result<Vec<u64>, OutOfMemory>
     ensures { IfOk result (λ complements. complements.items ≡ complements_of values.now) }
 {
@@ -25,7 +25,7 @@ pub fn complements(alloc: Global, values: &[u64]) -> Result<Vec<u64>, OutOfMemor
     }
 }
 
-/// Gives the lesser of two tables: each entry is the lesser of their entries.
+/// Returns the lesser of two tables: each entry is the lesser of their entries.
 pub fn lesser(alloc: Global, one: &[u64], other: &[u64]) -> Result<Vec<u64>, OutOfMemory>
     requires { length other.now ≡ length one.now }
     ensures { IfOk result (λ table. AreLesser one.now other.now table.items) }
@@ -37,7 +37,7 @@ pub fn lesser(alloc: Global, one: &[u64], other: &[u64]) -> Result<Vec<u64>, Out
     Ok(table)
 }
 
-/// Gives the values of words.
+/// Returns the values of words.
 pub fn values_of_words(alloc: Global, words: &[u64]) -> Result<Vec<u64>, OutOfMemory>
     ensures { IfOk result (λ values. values.items ≡ values_of words.now) }
 {
@@ -47,7 +47,7 @@ pub fn values_of_words(alloc: Global, words: &[u64]) -> Result<Vec<u64>, OutOfMe
     }
 }
 
-/// Gives the choices of words, for the states where a plan needs them.
+/// Returns the choices of words, for the states where a plan needs them.
 pub fn choices_of_words(
     alloc: Global,
     question: &Question,
@@ -69,7 +69,7 @@ pub fn choices_of_words(
     Ok(choices)
 }
 
-// Gives the choice of a state's word, if a plan needs one.
+// Returns the choice of a state's word, if a plan needs one.
 fn choice_of_state(question: &Question, state: u32, word: u64) -> Option<u32>
     requires { state < states question.now }
     ensures { result ≡ choice_of_word question.now state word }

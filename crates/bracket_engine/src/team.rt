@@ -14,7 +14,7 @@ use upper_guess::{UpTables, fill_part};
 pub struct Team<'a, R: Threads + Sync> {
     /// This starts their threads.
     pub rt: &'a R,
-    /// There are so many workers.
+    /// There are this many workers.
     pub workers: u32,
     ghost some: { 1 ≤ workers },
 }

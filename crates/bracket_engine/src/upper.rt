@@ -1,4 +1,4 @@
-//! The upper side of a bracket is made here: the upper table, and the minimiser's replies to it.
+//! This module makes the upper side of a bracket: the upper table, and the minimiser's replies to it.
 
 ghost use Rattle.std.specs.Prelude.{slice_index, IfOk};
 ghost use Rattle.game_model.specs.Dual.{IsZeroSet};
@@ -43,7 +43,7 @@ pub fn upper_side<R: Threads + Sync>(
     Ok(UpperSide { table, replies })
 }
 
-// Gives the least of the unit less the swapped values, of the guess over the base, and of the guess that was kept, if
+// Returns the least of the unit less the swapped values, of the guess over the base, and of the guess that was kept, if
 // any.
 fn upper_table<R: Threads + Sync>(
     team: &Team<'_, R>,
@@ -63,7 +63,7 @@ fn upper_table<R: Threads + Sync>(
     lesser(alloc, &unlost, &guessed)
 }
 
-// Gives the guess over the base, or the lesser of it and the guess that was kept, if any. If both are over the same
+// Returns the guess over the base, or the lesser of it and the guess that was kept, if any. If both are over the same
 // lower bounds, they are the same guess.
 fn least_guess<R: Threads + Sync>(
     team: &Team<'_, R>,

@@ -1,4 +1,4 @@
--- These certificates are accepted for a question, and this is what they prove.
+-- This module defines which certificates are accepted for a question, and what they prove.
 use Rattle.std.specs.Prelude.{ℕ, ◌≤◌, List, slice_index, All}
 use Rattle.game_model.specs.Query.{Query, states}
 use Rattle.game_model.specs.Limits.{unit}

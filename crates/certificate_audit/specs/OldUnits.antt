@@ -1,7 +1,7 @@
 -- In the units of certificates of the first version, probability 1 is ten to the twelfth.
 use Rattle.std.specs.Prelude.{ℕ, ◌*◌, List, map}
 
--- So many units of the first version are probability 1: twelve decimal places of a probability are whole numbers.
+-- This many units of the first version are probability 1: twelve decimal places of a probability are whole numbers.
 abbrev pub old_unit : ℕ
 old_unit = 1000000000000
 

@@ -11,9 +11,9 @@ use game_model::Question;
 use plan_text::{Plan, read_plan};
 use std::alloc::Global;
 
-/// Checks the certificate in a text, of any origin, for a question. It gives the plan that the text says, if its upper
-/// table is inductive, its replies are held to it, and its choices and ranks prove its lower table. What is accepted is
-/// right, whoever made it. The error is the first fault, in this order, or that memory ran out.
+/// Checks the certificate in a text, of any origin, for a question. It returns the plan that the text says, if its
+/// upper table is inductive, its replies are held to it, and its choices and ranks prove its lower table. What is
+/// accepted is right, whoever made it. The error is the first fault, in this order, or that memory ran out.
 pub fn audit(alloc: Global, question: &Question, bytes: &[u8]) -> Result<Plan, AuditFault>
     requires { length bytes.now ≤ most_bytes }
     ensures accepted { IfOk result (λ plan. IsAccepted question.now bytes.now plan) }

@@ -1,4 +1,4 @@
-//! A certificate may be refused.
+//! This module has the faults for which a certificate is refused.
 
 use inductive_check::UpperFault;
 use plan_text::PlanFault;

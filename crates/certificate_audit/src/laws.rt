@@ -1,4 +1,4 @@
-//! These are laws of audits. Each function does nothing; its contract is the law.
+//! This module has the laws of audits. Each function does nothing: its contract is the law.
 
 ghost use Rattle.std.specs.Prelude.{◌≡◌, ◌≤◌, ◌↔◌, ℕ, List, Option, All, length, slice_index};
 ghost use Rattle.game_model.specs.Limits.{unit};

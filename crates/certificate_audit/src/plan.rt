@@ -1,4 +1,4 @@
-//! A plan passes or has a fault.
+//! This module checks whether a plan passes.
 
 ghost use Rattle.std.specs.Prelude.{◌≤◌, slice_index, All, IfErr, OnOk};
 ghost use Rattle.game_model.specs.Query.{states};

@@ -1,6 +1,7 @@
--- `clap` reads the words after `check`, `audit`, `solve`, `make` and `sure` in this way: `TRA LAB FORMULA [--own FILE]
--- [--rounds R] [--workers W] [--plan] [--traps]`, `TRA LAB FORMULA CERT [--own FILE]`, `TRA LAB FORMULA [--own FILE]
--- [--values FILE] [--plan]`, `SEED STATES [--rounds R] [--workers W]` and `TRA LAB FORMULA [--own FILE]`.
+-- `clap` reads the words after the name of a command in this way. After `check` come `TRA LAB FORMULA [--own FILE]
+-- [--rounds R] [--workers W] [--plan] [--traps]`, and after `audit` come `TRA LAB FORMULA CERT [--own FILE]`. After
+-- `solve` come `TRA LAB FORMULA [--own FILE] [--values FILE] [--plan]`. After `make` come `SEED STATES [--rounds R]
+-- [--workers W]`, and after `sure` come `TRA LAB FORMULA [--own FILE]`.
 use Rattle.std.specs.Prelude.{◌≡◌, ℕ, List, [], codes, pos, true, Option, Some}
 use Rattle.clap.specs.Words.{App, IsParsedFrom, Rule, Text, app_of, fault_of, first_of, first_value, found_of}
 use Rattle.clap.specs.Words.{matches_of, new_app, new_rule, rows_of, with_rule}

@@ -14,7 +14,7 @@ use Rattle.command_words.specs.declared.words.MakeWords.{MakeWords}
 use Rattle.command_words.specs.declared.words.CommandWords.{CommandWords}
 use Rattle.command_words.specs.declared.words.CommandWords.TheVariants as variant
 
--- Words say these things, by name.
+-- These definitions are what the words of each command say, by name.
 
 -- The words that ask a question are its files and its formula.
 pub record Asked : Type 0 where
@@ -75,7 +75,7 @@ pub record IsMakeInRange (make : Make) : Type 0 where
   pub few_states : make.states ≤ most_states
   pub limits : AreRunLimits make.rounds make.workers
 
--- The values of names say these things.
+-- These definitions say when the values of names say this.
 
 -- A value is given, and it is the name of a file: it is not empty.
 pub record NamesFile (value : Option Text) (file : List ℕ) : Type 0 where
@@ -141,7 +141,7 @@ pub record SayMake (value : Text → Option Text) (make : Make) : Type 0 where
   pub states : GivesNumber (value (codes "states")) make.states
   pub limits : SayRunLimits value make.rounds make.workers
 
--- Words denote these things.
+-- These definitions say when words denote a command.
 
 -- The words after `check` denote this: `clap` has no fault to find in them, and the values that it gives them say it.
 -- So options may be anywhere, each once at most, with the value in the next word or after `=`. After `--` no word is an
@@ -202,7 +202,7 @@ DenoteCommand words = (command : Command) × AreCommand words command
 abbrev pub AreNoCommand : List Text → Type 0
 AreNoCommand words = (command : Command) → AreCommand words command → ⊥
 
--- Contracts see these things of words that were read.
+-- These definitions are what contracts see of words that were read.
 
 -- Contracts see this of the words that ask a question.
 abbrev pub asked_of_words : AskedWords → Asked

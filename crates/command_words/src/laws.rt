@@ -1,4 +1,4 @@
-//! These are laws of words. Each function does nothing: its contract is the law.
+//! This module has the laws of words. Each function does nothing: its contract is the law.
 
 ghost use Rattle.std.specs.Prelude.{◌≡◌, List, pos};
 ghost use Rattle.clap.specs.Words.{Text};

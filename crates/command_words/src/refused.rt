@@ -73,7 +73,7 @@ fn fault_found<'a>(
     }
 }
 
-// Gives the first line of an error, without the word that all errors begin with.
+// Returns the first line of an error, without the word that all errors begin with.
 fn first_line(text: &str) -> &str {
     let told = text.strip_prefix("error: ").unwrap_or(text);
     match told.split_once('\n') {

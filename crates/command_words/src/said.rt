@@ -15,7 +15,7 @@ struct RunLimits {
     workers: u32,
 }
 
-/// Gives what the values say of `check`, or none if they say no command.
+/// Returns what the values say of `check`, or none if they say no command.
 pub fn check_words<'a>(matches: &ArgMatches<'a>) -> Option<CheckWords<'a>>
     ensures { MatchOption result ((check : Check) → SayCheck (value_in matches.now) check → AreInRange check → ⊥)
         (λ check. SayCheck (value_in matches.now) (check_of check)) }
@@ -30,7 +30,7 @@ pub fn check_words<'a>(matches: &ArgMatches<'a>) -> Option<CheckWords<'a>>
     })
 }
 
-/// Gives what the values say of `audit`, or none if they say no command.
+/// Returns what the values say of `audit`, or none if they say no command.
 pub fn audit_words<'a>(matches: &ArgMatches<'a>) -> Option<AuditWords<'a>>
     ensures { MatchOption result ((audit : Audit) → SayAudit (value_in matches.now) audit → ⊥)
         (λ audit. SayAudit (value_in matches.now) (audit_of audit)) }
@@ -41,7 +41,7 @@ pub fn audit_words<'a>(matches: &ArgMatches<'a>) -> Option<AuditWords<'a>>
     })
 }
 
-/// Gives what the values say of `solve`, or none if they say no command.
+/// Returns what the values say of `solve`, or none if they say no command.
 pub fn solve_words<'a>(matches: &ArgMatches<'a>) -> Option<SolveWords<'a>>
     ensures { MatchOption result ((solve : Solve) → SaySolve (value_in matches.now) solve → ⊥)
         (λ solve. SaySolve (value_in matches.now) (solve_of solve)) }
@@ -57,7 +57,7 @@ pub fn solve_words<'a>(matches: &ArgMatches<'a>) -> Option<SolveWords<'a>>
     })
 }
 
-/// Gives what the values say of `make`, or none if they say no command.
+/// Returns what the values say of `make`, or none if they say no command.
 pub fn make_words<'a>(matches: &ArgMatches<'a>) -> Option<MakeWords>
     ensures { MatchOption result ((make : Make) → SayMake (value_in matches.now) make → IsMakeInRange make → ⊥)
         (λ make. SayMake (value_in matches.now) (make_of make)) }
@@ -71,7 +71,7 @@ pub fn make_words<'a>(matches: &ArgMatches<'a>) -> Option<MakeWords>
     })
 }
 
-/// Gives what the values ask, or none if they ask nothing.
+/// Returns what the values ask, or none if they ask nothing.
 pub fn asked_words<'a>(matches: &ArgMatches<'a>) -> Option<AskedWords<'a>>
     ensures { MatchOption result ((asked : Asked) → SayAsked (value_in matches.now) asked → ⊥)
         (λ asked. SayAsked (value_in matches.now) (asked_of_words asked)) }
@@ -88,7 +88,7 @@ pub fn asked_words<'a>(matches: &ArgMatches<'a>) -> Option<AskedWords<'a>>
     })
 }
 
-// Gives how far a run goes by what the values say, or none if they say no such limits.
+// Returns how far a run goes by what the values say, or none if they say no such limits.
 fn run_limits<'a>(matches: &ArgMatches<'a>) -> Option<RunLimits>
     ensures { MatchOption result ((rounds workers : ℕ) → SayRunLimits (value_in matches.now) rounds workers
         → AreRunLimits rounds workers → ⊥)
@@ -100,7 +100,7 @@ fn run_limits<'a>(matches: &ArgMatches<'a>) -> Option<RunLimits>
     })
 }
 
-// Gives the word of a file, if it is not empty.
+// Returns the word of a file, if it is not empty.
 fn file_word(word: Option<&str>) -> Option<&str>
     ensures { MatchOption result ((file : List ℕ) → NamesFile (option_map (λ w. w.now) word.entry) file → ⊥)
         (λ file. NamesFile (option_map (λ w. w.now) word.entry) file.now) }
@@ -111,7 +111,7 @@ fn file_word(word: Option<&str>) -> Option<&str>
     }
 }
 
-// Says whether a file has a name, if it is given.
+// Returns whether a file has a name, if it is given.
 fn is_named_where_given(word: Option<&str>) -> bool
     ensures { IsTrue result ↔ IsNamedWhereGiven (option_map (λ w. w.now) word.entry) }
 {
@@ -121,7 +121,7 @@ fn is_named_where_given(word: Option<&str>) -> bool
     }
 }
 
-// Says whether a flag is given, by its value.
+// Returns whether a flag is given, by its value.
 fn is_given(value: Option<&str>) -> bool
     ensures { IsTrue result ↔ (option_map (λ w. w.now) value.entry ≡ Some (codes "true")) }
 {
@@ -131,7 +131,7 @@ fn is_given(value: Option<&str>) -> bool
     }
 }
 
-// Gives the number that the word of an option spells, or the default if the word is not given. It gives none if the
+// Returns the number that the word of an option spells, or the default if the word is not given. It returns none if the
 // word is no number of 32 bits.
 fn read_number(word: Option<&str>, default: u32) -> Option<u32>
     ensures { MatchOption result ((n : ℕ) → IsNumber default (option_map (λ w. w.now) word.entry) n → 2 ^ 32 ≤ n)
@@ -143,7 +143,7 @@ fn read_number(word: Option<&str>, default: u32) -> Option<u32>
     }
 }
 
-// Gives the number that a word spells. It gives none if there is no word, or if the word is no number of 32 bits.
+// Returns the number that a word spells. It returns none if there is no word, or if the word is no number of 32 bits.
 fn given_number(word: Option<&str>) -> Option<u32>
     ensures { MatchOption result ((n : ℕ) → GivesNumber (option_map (λ w. w.now) word.entry) n → 2 ^ 32 ≤ n)
         (λ n. GivesNumber (option_map (λ w. w.now) word.entry) n) }

@@ -89,7 +89,7 @@ pub enum CommandWords<'a> {
     Sure(AskedWords<'a>),
 }
 
-/// Gives the command that the words denote, or none if they denote no command. The only error is that memory ran out.
+/// Returns the command that the words denote, or none if they denote no command. The only error is that memory ran out.
 pub fn read_words(alloc: Global, words: &[String]) -> Result<Option<CommandWords<'_>>, OutOfMemory>
     ensures { IfOk result (λ read. MatchOption read (AreNoCommand (map string_bytes words.now))
         (λ command. AreCommand (map string_bytes words.now) (command_of command))) }
@@ -100,7 +100,7 @@ pub fn read_words(alloc: Global, words: &[String]) -> Result<Option<CommandWords
     }
 }
 
-// Gives the command of this name that the words after it denote, or none.
+// Returns the command of this name that the words after it denote, or none.
 fn read_command<'a>(
     alloc: Global,
     name: &str,
@@ -123,7 +123,7 @@ fn read_command<'a>(
     }
 }
 
-// Gives what the words after `check` say, or none if they denote no command.
+// Returns what the words after `check` say, or none if they denote no command.
 fn read_check(alloc: Global, words: &[String]) -> Result<Option<CheckWords<'_>>, OutOfMemory>
     ensures { IfOk result (λ read. MatchOption read ((check : Check) → AreCheckWords (map string_bytes words.now) check
         → ⊥) (λ check. AreCheckWords (map string_bytes words.now) (check_of check))) }
@@ -134,7 +134,7 @@ fn read_check(alloc: Global, words: &[String]) -> Result<Option<CheckWords<'_>>,
     }
 }
 
-// Gives what the words after `audit` say, or none if they denote no command.
+// Returns what the words after `audit` say, or none if they denote no command.
 fn read_audit(alloc: Global, words: &[String]) -> Result<Option<AuditWords<'_>>, OutOfMemory>
     ensures { IfOk result (λ read. MatchOption read ((audit : Audit) → AreAuditWords (map string_bytes words.now) audit
         → ⊥) (λ audit. AreAuditWords (map string_bytes words.now) (audit_of audit))) }
@@ -145,7 +145,7 @@ fn read_audit(alloc: Global, words: &[String]) -> Result<Option<AuditWords<'_>>,
     }
 }
 
-// Gives what the words after `solve` say, or none if they denote no command.
+// Returns what the words after `solve` say, or none if they denote no command.
 fn read_solve(alloc: Global, words: &[String]) -> Result<Option<SolveWords<'_>>, OutOfMemory>
     ensures { IfOk result (λ read. MatchOption read ((solve : Solve) → AreSolveWords (map string_bytes words.now) solve
         → ⊥) (λ solve. AreSolveWords (map string_bytes words.now) (solve_of solve))) }
@@ -156,7 +156,7 @@ fn read_solve(alloc: Global, words: &[String]) -> Result<Option<SolveWords<'_>>,
     }
 }
 
-// Gives what the words after `sure` say, or none if they denote no command.
+// Returns what the words after `sure` say, or none if they denote no command.
 fn read_sure(alloc: Global, words: &[String]) -> Result<Option<AskedWords<'_>>, OutOfMemory>
     ensures { IfOk result (λ read. MatchOption read ((asked : Asked) → AreSureWords (map string_bytes words.now) asked
         → ⊥) (λ asked. AreSureWords (map string_bytes words.now) (asked_of_words asked))) }
@@ -167,7 +167,7 @@ fn read_sure(alloc: Global, words: &[String]) -> Result<Option<AskedWords<'_>>, 
     }
 }
 
-// Gives what the words after `make` say, or none if they denote no command.
+// Returns what the words after `make` say, or none if they denote no command.
 fn read_make(alloc: Global, words: &[String]) -> Result<Option<MakeWords>, OutOfMemory>
     ensures { IfOk result (λ read. MatchOption read ((make : Make) → AreMakeWords (map string_bytes words.now) make → ⊥)
         (λ make. AreMakeWords (map string_bytes words.now) (make_of make))) }
@@ -178,7 +178,7 @@ fn read_make(alloc: Global, words: &[String]) -> Result<Option<MakeWords>, OutOf
     }
 }
 
-// Gives what the command finds in the words, or none if it does not take them.
+// Returns what the command finds in the words, or none if it does not take them.
 fn taken<'a>(
     command: Command<'a>,
     words: &'a [String],

@@ -1,4 +1,4 @@
--- This file defines how the states of a question are divided into components.
+-- This module defines how the states of a question are divided into components.
 use Rattle.std.specs.Prelude.{◌≡◌, ℕ, ◌+◌, ◌^◌, ◌<◌, ◌≤◌, List, length, slice_index, slice_range}
 
 -- `component` gives each state the number of its component. `members` lists the states, component after component.

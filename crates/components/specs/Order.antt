@@ -1,4 +1,4 @@
--- This file says when components are in the order of play.
+-- This module says when components are in the order of play.
 use Rattle.std.specs.Prelude.{◌≡◌, ℕ, ◌<◌, ◌≤◌, Bool, true, List, length, slice_index}
 use Rattle.game_model.specs.Game.{choices_of, choice_of, edge_of}
 use Rattle.game_model.specs.Query.{Query, states}

@@ -15,28 +15,30 @@ pub const NONE: u32 = 4_294_967_295;
 /// A state that has a component has this number, which is above those of the states that wait for theirs.
 const CLOSED: u32 = 4_294_967_295;
 
-/// A search knows this of a state. `number` gives the order in which states were met: it is 0 until the state is met,
-/// and `CLOSED` once the state has a component. `low` is the least number of a state without a component to which it is
-/// known to lead. `choice` and `place` give the next edge to follow.
+/// A search knows this of a state that it has met. `low` is the least number of a state without a component to which it
+/// is known to lead. `choice` and `place` give the next edge to follow.
 #[derive(Clone, Copy)]
 struct Seen {
-    number: u32,
     low: u32,
     choice: u32,
     place: u32,
 }
 
-/// A search under way has met `met` states and closed `count` components. `path` leads to the current state. `waiting`
-/// has the states that were met and have no component yet.
+/// A search under way has met `met` states and closed `count` components. The numbers give the order in which states were
+/// met: a number is 0 until its state is met, and `CLOSED` once the state has a component. They are a list of their
+/// own because they are all that is read for every edge. `path` leads to the current state. `waiting` has the states
+/// that were met and have no component yet.
 #[derive(Drop)]
 pub struct Search {
     pub states: u32,
     met: u32,
     pub count: u32,
+    numbers: Vec<u32>,
     seen: Vec<Seen>,
     pub component: Vec<u32>,
     path: Vec<u32>,
     waiting: Vec<u32>,
+    ghost numbered: { vec_len numbers ≡ states },
     ghost all_seen: { vec_len seen ≡ states },
     ghost components: { vec_len component ≡ states },
     ghost path_inside: { EachIndex path.items (λ k. slice_index path.items k < states) },
@@ -49,7 +51,6 @@ impl Search {
         ensures { IfOk result (λ s. s.states ≡ states) }
     {
         let unseen = Seen {
-            number: 0,
             low: 0,
             choice: 0,
             place: 0,
@@ -58,6 +59,7 @@ impl Search {
             states,
             met: 0,
             count: 0,
+            numbers: vec![in alloc; 0u32; states as usize]?,
             seen: vec![in alloc; unseen; states as usize]?,
             component: vec![in alloc; NONE; states as usize]?,
             path: Vec::with_capacity(alloc, states as usize)?,
@@ -69,7 +71,7 @@ impl Search {
     fn has_met(&self, state: u32) -> bool
         requires { state < self.now.states }
     {
-        self.seen[state as usize].number != 0
+        self.numbers[state as usize] != 0
     }
 
     /// Meets a state.
@@ -78,8 +80,8 @@ impl Search {
         ensures { self.new.states ≡ self.old.states }
     {
         self.met = self.met.saturating_add(1);
+        self.numbers[state as usize] = self.met;
         self.seen[state as usize] = Seen {
-            number: self.met,
             low: self.met,
             choice: 0,
             place: 0,
@@ -148,7 +150,7 @@ impl Search {
     {
         let mut low = self.seen[state as usize].low;
         for place in from..successors.len() {
-            let number = self.seen[successors[place] as usize].number;
+            let number = self.numbers[successors[place] as usize];
             if number == 0 {
                 self.seen[state as usize].low = low;
                 return Some(place);
@@ -181,7 +183,7 @@ impl Search {
         if let Some(before) = self.path.last().copied() {
             self.lower(before, seen.low);
         }
-        if seen.low == seen.number {
+        if seen.low == self.numbers[state as usize] {
             self.close(state);
         }
     }
@@ -192,7 +194,7 @@ impl Search {
     {
         while let Some(member) = self.waiting.pop() {
             self.component[member as usize] = self.count;
-            self.seen[member as usize].number = CLOSED;
+            self.numbers[member as usize] = CLOSED;
             if member == state {
                 break;
             }
@@ -206,7 +208,7 @@ impl Search {
         ensures { self.new.states ≡ self.old.states }
     {
         self.component[state as usize] = self.count;
-        self.seen[state as usize].number = CLOSED;
+        self.numbers[state as usize] = CLOSED;
         self.count = self.count.saturating_add(1);
     }
 

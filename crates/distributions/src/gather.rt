@@ -10,7 +10,7 @@ ghost use Rattle.game_model.specs.Rising.{RiseFrom};
 use game_model::Edge;
 use std::alloc::{AllocError, Global};
 
-// Says whether the successors of the edges rise, and none has weight 0.
+// Returns whether the successors of the edges rise, and none has weight 0.
 fn is_gathered(edges: &[Edge]) -> bool
     ensures { IsTrue result → RiseFrom 0 edges.now }
 {
@@ -24,7 +24,7 @@ fn is_gathered(edges: &[Edge]) -> bool
     true
 }
 
-// Says whether the edges are in the order of their successors.
+// Returns whether the edges are in the order of their successors.
 fn is_ordered(edges: &[Edge]) -> bool
     ensures { IsTrue result → StandFrom 0 edges.now }
 {

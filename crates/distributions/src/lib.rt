@@ -1,8 +1,8 @@
 //! This crate makes the distribution of a choice from its parts, whose shares are exact fractions.
 //!
 //! `make_choice` adds up the parts of a choice over the least common multiple of their denominators. The decimals of a
-//! file may be rounded, so a sum that misses 1 by at most one part in 100,000 is accepted, and the weights are then
-//! divided by their sum: an edge has its weight over the total as its probability.
+//! file may be rounded, so a sum that misses 1 by at most one part in 100,000 is accepted. The weights are then divided
+//! by their sum: an edge has its weight over the total as its probability.
 //!
 //! ```text
 //! let share = read_number(b"0.33333333333333331")?;

@@ -18,7 +18,7 @@ pub fn limits()
     ensures states { LEAST_STATES ≡ least_states }
 {}
 
-/// If a number may be a seed, so may the draw after it. Different numbers have different draws after them.
+/// If a number may be a seed, so may the draw after it. Different such numbers have different draws after them.
 pub fn draws_are_seeds()
     ensures range { (x : ℕ) → 1 ≤ x → x ≤ most_seed → (1 ≤ next_draw x) × (next_draw x ≤ most_seed) }
     ensures apart { (x y : ℕ) → x ≤ most_seed → y ≤ most_seed → next_draw x ≡ next_draw y → x ≡ y }

@@ -41,7 +41,7 @@ pub record IsUpperAt (q : Query) (rewards : Rewards) (finite : List Bool) (repli
   pub each : IsOpen q s → is_finite finite s ≡ true → (c : ℕ) → MayBeTaken q Min replies s c
       → StaysFinite finite (choice_of q.game s c) × IsCovered upper (upper s) (rewards s c) (choice_of q.game s c)
 
--- This is an upper table, with the minimiser's replies.
+-- If the minimiser plays the replies, the table is an upper table: `IsUpperAt` holds at each state.
 abbrev pub IsUpperTable : Query → Rewards → List Bool → List (Option ℕ) → (ℕ → ℕ) → Type 0
 IsUpperTable q rewards finite replies upper = (s : ℕ) → s < states q → IsUpperAt q rewards finite replies upper s
 
@@ -58,7 +58,7 @@ pub record IsLowerAt (q : Query) (rewards : Rewards) (finite : List Bool) (choic
   pub each : IsOpen q s → is_finite finite s ≡ true → (c : ℕ) → MayBeTaken q Max choices s c
       → LeadsAway finite (choice_of q.game s c) ⊎ IsPaid lower (lower s) (rewards s c) (choice_of q.game s c)
 
--- This is a lower table, with the maximiser's choices.
+-- If the maximiser plays the choices, the table is a lower table: `IsLowerAt` holds at each state.
 abbrev pub IsLowerTable : Query → Rewards → List Bool → List (Option ℕ) → (ℕ → ℕ) → Type 0
 IsLowerTable q rewards finite choices lower = (s : ℕ) → s < states q → IsLowerAt q rewards finite choices lower s
 
@@ -80,6 +80,7 @@ pub record IsAwayAt (q : Query) (finite : List Bool) (choices : List (Option ℕ
   pub each : IsOpen q s → is_finite finite s ≡ false → (c : ℕ) → MayBeTaken q Max choices s c
       → Sinks finite rank s (choice_of q.game s c) ⊎ Lingers finite rank s (choice_of q.game s c)
 
--- These are ranks of the states that are not finite, with the maximiser's choices there.
+-- If the maximiser plays the choices, these are ranks of the states that are not finite: `IsAwayAt` holds at each
+-- state.
 abbrev pub AreAwayRanks : Query → List Bool → List (Option ℕ) → (ℕ → ℕ) → Type 0
 AreAwayRanks q finite choices rank = (s : ℕ) → s < states q → IsAwayAt q finite choices rank s

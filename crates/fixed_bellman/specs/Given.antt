@@ -7,7 +7,7 @@ use Rattle.game_model.specs.Query.{Query, is_goal, is_dead, side_at}
 use Rattle.game_model.specs.Limits.{unit}
 use Rattle.game_model.specs.Rounded.{down_value, down_step}
 
--- The state is neither a goal nor dead.
+-- The state is neither goal nor dead.
 abbrev pub IsFree : Query → ℕ → Type 0
 IsFree q s = (is_goal q s ≡ false) × (is_dead q s ≡ false)
 

@@ -11,8 +11,8 @@ use crate::sum::quotient;
 use crate::values::Values;
 use game_model::{Question, Side, UNIT};
 
-/// Gives the step of a state that is neither a goal nor dead, and the choice for it, if the step is above a floor. Else
-/// it gives the floor and choice 0. It divides only for a gain.
+/// Returns the step of a state that is neither goal nor dead, and the choice for it, if the step is above a floor. Else
+/// it returns the floor and choice 0. It divides only for a gain.
 pub fn step_above<V: Values>(
     question: &Question,
     values: &V,
@@ -35,8 +35,8 @@ pub fn step_above<V: Values>(
     }
 }
 
-/// Gives the greatest value of the choices of a state and the first choice that gives it, if it is above a floor. Else
-/// it gives the floor and choice 0.
+/// Returns the greatest value of the choices of a state and the first choice that gives it, if it is above a floor.
+/// Else it returns the floor and choice 0.
 fn greatest_above<V: Values>(
     question: &Question,
     values: &V,
@@ -73,7 +73,7 @@ fn greatest_above<V: Values>(
     (best, first)
 }
 
-/// Gives the least value of the choices of a state, if it is above a floor. Else it gives the floor. It ends at the
+/// Returns the least value of the choices of a state, if it is above a floor. Else it returns the floor. It ends at the
 /// first choice that is not above the floor.
 fn least_above<V: Values>(
     question: &Question,

@@ -12,7 +12,7 @@ use crate::bounds::Bounds;
 use crate::quotient::{MOST_NARROW, Quotient};
 use game_model::Row;
 
-/// Gives the values of a choice of a row over the lower and over the upper bounds, before they are rounded.
+/// Returns the values of a choice of a row over the lower and over the upper bounds, before they are rounded.
 #[inline(always)]
 pub fn quotients(row: &Row<'_>, choice: u32, table: &[Bounds]) -> (Quotient, Quotient)
     requires choice { choice < length row.now }
@@ -27,7 +27,7 @@ pub fn quotients(row: &Row<'_>, choice: u32, table: &[Bounds]) -> (Quotient, Quo
     (Quotient::new(lower, total), Quotient::new(upper, total))
 }
 
-/// Gives the weighted sums of a choice, in the least width that its total allows.
+/// Returns the weighted sums of a choice, in the least width that its total allows.
 #[inline(always)]
 fn sums_of(row: &Row<'_>, choice: u32, total: u128, table: &[Bounds]) -> (u128, u128)
     requires choice { choice < length row.now }
@@ -49,7 +49,7 @@ fn sums_of(row: &Row<'_>, choice: u32, total: u128, table: &[Bounds]) -> (u128, 
     middle_sums(successors, weights, table)
 }
 
-/// Gives the weighted sums if products and sums fit 64 bits.
+/// Returns the weighted sums if products and sums fit 64 bits.
 fn narrow_sums(successors: &[u32], weights: &[u64], table: &[Bounds]) -> (u64, u64)
     requires many { length weights.now ≡ length successors.now }
     requires inside { All (λ t. t < length table.now) successors.now }
@@ -67,7 +67,7 @@ fn narrow_sums(successors: &[u32], weights: &[u64], table: &[Bounds]) -> (u64, u
     (lower, upper)
 }
 
-/// Gives the weighted sums if weights fit 64 bits: each product is of two numbers of 64 bits.
+/// Returns the weighted sums if weights fit 64 bits: each product is of two numbers of 64 bits.
 fn middle_sums(successors: &[u32], weights: &[u64], table: &[Bounds]) -> (u128, u128)
     requires many { length weights.now ≡ length successors.now }
     requires inside { All (λ t. t < length table.now) successors.now }
@@ -85,7 +85,7 @@ fn middle_sums(successors: &[u32], weights: &[u64], table: &[Bounds]) -> (u128, 
     (lower, upper)
 }
 
-/// Gives the weighted sums of a choice of any total.
+/// Returns the weighted sums of a choice of any total.
 #[inline(never)]
 fn wide_sums(row: &Row<'_>, choice: u32, table: &[Bounds]) -> (u128, u128)
     requires choice { choice < length row.now }

@@ -19,7 +19,7 @@ pub struct Bounds {
     pub upper: u64,
 }
 
-/// Gives the step of both bounds of a state: the down step of the lower bounds, and the up step of the upper ones. It
+/// Returns the step of both bounds of a state: the down step of the lower bounds, and the up step of the upper ones. It
 /// goes over the edges of each choice once.
 pub fn step_bounds(question: &Question, state: u32, table: &[Bounds]) -> Bounds
     requires state { state < states question.now }
@@ -44,7 +44,7 @@ pub fn step_bounds(question: &Question, state: u32, table: &[Bounds]) -> Bounds
     }
 }
 
-/// Gives the greatest lower and the greatest upper value of the choices of a state.
+/// Returns the greatest lower and the greatest upper value of the choices of a state.
 fn greatest_bounds(question: &Question, state: u32, table: &[Bounds]) -> Bounds
     requires state { state < states question.now }
     requires length { length table.now ≡ states question.now }
@@ -71,7 +71,7 @@ fn greatest_bounds(question: &Question, state: u32, table: &[Bounds]) -> Bounds
     Bounds { lower, upper }
 }
 
-/// Gives the least lower and the least upper value of the choices of a state.
+/// Returns the least lower and the least upper value of the choices of a state.
 fn least_bounds(question: &Question, state: u32, table: &[Bounds]) -> Bounds
     requires state { state < states question.now }
     requires length { length table.now ≡ states question.now }

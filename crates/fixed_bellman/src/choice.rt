@@ -10,8 +10,8 @@ ghost use Rattle.game_model.specs.Rounded.{down_value, up_value};
 use crate::sum::table_quotient;
 use game_model::Question;
 
-/// Gives the value of a choice over a table, rounded down. Goals and dead states have choices too, and there also this
-/// is the value of the choice.
+/// Returns the value of a choice over a table, rounded down. Goals and dead states have choices too, and there also
+/// this is the value of the choice.
 pub fn down_choice(question: &Question, state: u32, choice: u32, table: &[u64]) -> u64
     requires state { state < states question.now }
     requires choice { choice < length (choices_of question.now.game state) }
@@ -29,7 +29,7 @@ pub fn down_choice(question: &Question, state: u32, choice: u32, table: &[u64]) 
     table_quotient(&question.row(state), choice, table).down()
 }
 
-/// Gives the value of a choice over a table, rounded up.
+/// Returns the value of a choice over a table, rounded up.
 pub fn up_choice(question: &Question, state: u32, choice: u32, table: &[u64]) -> u64
     requires state { state < states question.now }
     requires choice { choice < length (choices_of question.now.game state) }

@@ -11,7 +11,7 @@ use crate::above::step_above;
 use crate::values::Entries;
 use game_model::{Question, UNIT};
 
-/// Gives the down step of a table at a state. At a Max state that is neither a goal nor dead it also gives the first
+/// Returns the down step of a table at a state. At a Max state that is neither goal nor dead it also returns the first
 /// choice that has this value. Elsewhere the choice is 0.
 pub fn down_state(question: &Question, state: u32, table: &[u64]) -> (u64, u32)
     requires state { state < states question.now }
@@ -30,8 +30,8 @@ pub fn down_state(question: &Question, state: u32, table: &[u64]) -> (u64, u32)
     table_step_above(question, state, table, 0)
 }
 
-/// Gives what [`down_state`] gives, if its value is above the entry of the state. A state that does not rise costs a
-/// sum and a comparison for each choice, and no division.
+/// Returns what [`down_state`] returns, if its value is above the entry of the state. A state that does not rise costs
+/// a sum and a comparison for each choice, and no division.
 pub fn raised_state(question: &Question, state: u32, table: &[u64]) -> Option<(u64, u32)>
     requires state { state < states question.now }
     requires length { length table.now ≡ states question.now }
@@ -72,7 +72,7 @@ fn table_step_above(question: &Question, state: u32, table: &[u64], floor: u64) 
     step_above(question, &entries, &mut (), state, floor)
 }
 
-/// Gives the step of a goal if it is above the entry.
+/// Returns the step of a goal if it is above the entry.
 fn raised_goal(entry: u64) -> Option<(u64, u32)>
     requires { entry ≤ unit }
     ensures { MatchOption result (unit ≤ entry) (λ r. (r.0 ≡ unit) × (r.1 ≡ 0) × (entry < r.0)) }

@@ -12,7 +12,7 @@ use crate::settling::{all_above, some_above};
 use crate::sum::table_quotient;
 use game_model::{Question, Row, Side};
 
-/// Says whether the weighted average of a choice of a row over a table is at least this value.
+/// Returns whether the weighted average of a choice of a row over a table is at least this value.
 #[inline(always)]
 pub fn gives(row: &Row<'_>, choice: u32, table: &[u64], value: u64) -> bool
     requires choice { choice < length row.now }
@@ -26,7 +26,7 @@ pub fn gives(row: &Row<'_>, choice: u32, table: &[u64], value: u64) -> bool
     !table_quotient(row, choice, table).down_below(value)
 }
 
-/// Says whether the weighted average of a choice of a row over a table is at most this value.
+/// Returns whether the weighted average of a choice of a row over a table is at most this value.
 #[inline(always)]
 pub fn holds(row: &Row<'_>, choice: u32, table: &[u64], value: u64) -> bool
     requires choice { choice < length row.now }
@@ -40,7 +40,7 @@ pub fn holds(row: &Row<'_>, choice: u32, table: &[u64], value: u64) -> bool
     !table_quotient(row, choice, table).up_above(value)
 }
 
-/// Says whether the down step of a table at a state is at least its entry.
+/// Returns whether the down step of a table at a state is at least its entry.
 pub fn is_given(question: &Question, state: u32, table: &[u64]) -> bool
     requires state { state < states question.now }
     requires length { length table.now ≡ states question.now }

@@ -62,7 +62,7 @@ impl Quotient {
         divided(self.sum + (self.total - 1), self.total)
     }
 
-    /// Says whether the quotient, rounded down, is above a floor.
+    /// Returns whether the quotient, rounded down, is above a floor.
     pub fn down_above(self, floor: u64) -> bool
         requires { floor ≤ unit }
         ensures { IsTrue result ↔ (floor < rounded_down self) }
@@ -73,7 +73,7 @@ impl Quotient {
         self.sum >= (u128::from(floor) + 1) * self.total
     }
 
-    /// Says whether the quotient, rounded down, is below a ceiling.
+    /// Returns whether the quotient, rounded down, is below a ceiling.
     pub fn down_below(self, ceiling: u64) -> bool
         requires { ceiling ≤ unit }
         ensures { IsTrue result ↔ (rounded_down self < ceiling) }
@@ -84,7 +84,7 @@ impl Quotient {
         self.sum < u128::from(ceiling) * self.total
     }
 
-    /// Says whether the quotient, rounded up, is above a floor.
+    /// Returns whether the quotient, rounded up, is above a floor.
     pub fn up_above(self, floor: u64) -> bool
         requires { floor ≤ unit }
         ensures { IsTrue result ↔ (floor < rounded_up self) }
@@ -95,7 +95,7 @@ impl Quotient {
         self.sum > u128::from(floor) * self.total
     }
 
-    /// Says whether the quotient, rounded up, is below a ceiling.
+    /// Returns whether the quotient, rounded up, is below a ceiling.
     pub fn up_below(self, ceiling: u64) -> bool
         requires { ceiling ≤ unit }
         ensures { IsTrue result ↔ (rounded_up self < ceiling) }
@@ -124,14 +124,14 @@ fn estimate(above: u128, total: u128) -> u64 {
     saturating_f64_to_u64(float_of(above) / float_of(total))
 }
 
-/// Gives a number in floating point.
+/// Returns a number in floating point.
 fn float_of(number: u128) -> f64 {
     let high = nearest_u64_to_f64((number / WORD) as u64);
     let low = nearest_u64_to_f64((number % WORD) as u64);
     high * FLOAT_WORD + low
 }
 
-/// Gives the first number from a guess downward whose product with the total is not above a number.
+/// Returns the first number from a guess downward whose product with the total is not above a number.
 fn lowered(above: u128, total: u128, mut guess: u64) -> u64
     requires small { total < total_bound }
     requires units { guess ≤ unit }

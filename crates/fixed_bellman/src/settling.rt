@@ -9,7 +9,7 @@ ghost use Rattle.game_model.specs.Rounded.{down_value, down_step, IsSettled};
 use crate::sum::table_quotient;
 use game_model::{Question, Row, Side, UNIT};
 
-/// Says whether no state's down value is above its entry. It ends at the first one that is.
+/// Returns whether no state's down value is above its entry. It ends at the first one that is.
 pub fn settled(question: &Question, table: &[u64]) -> bool
     requires length { length table.now ≡ states question.now }
     requires units { All (λ v. v ≤ unit) table.now }
@@ -23,7 +23,7 @@ pub fn settled(question: &Question, table: &[u64]) -> bool
     true
 }
 
-/// Says whether the down step of a table at a state is above its entry.
+/// Returns whether the down step of a table at a state is above its entry.
 fn rises(question: &Question, state: u32, table: &[u64]) -> bool
     requires state { state < states question.now }
     requires length { length table.now ≡ states question.now }
@@ -45,7 +45,7 @@ fn rises(question: &Question, state: u32, table: &[u64]) -> bool
     }
 }
 
-/// Says whether the value of some choice of a row, rounded down, is above a floor.
+/// Returns whether the value of some choice of a row, rounded down, is above a floor.
 pub fn some_above(row: &Row<'_>, table: &[u64], floor: u64) -> bool
     requires inside { All (λ m. All (λ e. e.to < length table.now) m.edges) row.now }
     requires units { All (λ v. v ≤ unit) table.now }
@@ -60,7 +60,7 @@ pub fn some_above(row: &Row<'_>, table: &[u64], floor: u64) -> bool
     false
 }
 
-/// Says whether the values of all choices of a row, rounded down, are above a floor.
+/// Returns whether the values of all choices of a row, rounded down, are above a floor.
 pub fn all_above(row: &Row<'_>, table: &[u64], floor: u64) -> bool
     requires inside { All (λ m. All (λ e. e.to < length table.now) m.edges) row.now }
     requires units { All (λ v. v ≤ unit) table.now }

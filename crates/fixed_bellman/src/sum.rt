@@ -11,7 +11,7 @@ use crate::quotient::{MOST_NARROW, Quotient};
 use crate::values::{Entries, Values};
 use game_model::Row;
 
-/// Gives the value of a choice of a row over values that may rise while they are read, before it is rounded.
+/// Returns the value of a choice of a row over values that may rise while they are read, before it is rounded.
 #[inline(always)]
 pub fn quotient<V: Values>(row: &Row<'_>, choice: u32, values: &V, pass: &mut V::Pass) -> Quotient
     requires choice { choice < length row.now }
@@ -26,7 +26,7 @@ pub fn quotient<V: Values>(row: &Row<'_>, choice: u32, values: &V, pass: &mut V:
     Quotient::new(sum, total)
 }
 
-/// Gives the value of a choice of a row over a table, before it is rounded.
+/// Returns the value of a choice of a row over a table, before it is rounded.
 #[inline(always)]
 pub fn table_quotient(row: &Row<'_>, choice: u32, table: &[u64]) -> Quotient
     requires choice { choice < length row.now }
@@ -39,7 +39,7 @@ pub fn table_quotient(row: &Row<'_>, choice: u32, table: &[u64]) -> Quotient
     quotient(row, choice, &entries, &mut ())
 }
 
-/// Gives the weighted sum of a choice, in the least width that its total allows.
+/// Returns the weighted sum of a choice, in the least width that its total allows.
 #[inline(always)]
 fn sum_of<V: Values>(
     row: &Row<'_>,
@@ -67,7 +67,7 @@ fn sum_of<V: Values>(
     middle_sum(successors, weights, values, pass)
 }
 
-/// Gives the weighted sum if products and sum fit 64 bits.
+/// Returns the weighted sum if products and sum fit 64 bits.
 fn narrow_sum<V: Values>(successors: &[u32], weights: &[u64], values: &V, pass: &mut V::Pass) -> u64
     requires many { length weights.now ≡ length successors.now }
     requires fits { All (λ t. V.fits values.now pass.old t) successors.now }
@@ -83,7 +83,7 @@ fn narrow_sum<V: Values>(successors: &[u32], weights: &[u64], values: &V, pass: 
     sum
 }
 
-/// Gives the weighted sum if weights fit 64 bits: each product is of two numbers of 64 bits.
+/// Returns the weighted sum if weights fit 64 bits: each product is of two numbers of 64 bits.
 fn middle_sum<V: Values>(
     successors: &[u32],
     weights: &[u64],
@@ -104,7 +104,7 @@ fn middle_sum<V: Values>(
     sum
 }
 
-/// Gives the weighted sum of a choice of any total.
+/// Returns the weighted sum of a choice of any total.
 #[inline(never)]
 fn wide_sum<V: Values>(row: &Row<'_>, choice: u32, values: &V, pass: &mut V::Pass) -> u128
     requires choice { choice < length row.now }

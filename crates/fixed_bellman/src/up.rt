@@ -10,7 +10,7 @@ ghost use Rattle.game_model.specs.Rounded.{up_value, up_step};
 use crate::sum::table_quotient;
 use game_model::{Question, Side, UNIT};
 
-/// Gives the greatest up value of the choices of a state.
+/// Returns the greatest up value of the choices of a state.
 fn greatest_up(question: &Question, state: u32, table: &[u64]) -> u64
     requires state { state < states question.now }
     requires length { length table.now ≡ states question.now }
@@ -30,7 +30,7 @@ fn greatest_up(question: &Question, state: u32, table: &[u64]) -> u64
     best
 }
 
-/// Gives the least up value of the choices of a state.
+/// Returns the least up value of the choices of a state.
 fn least_up(question: &Question, state: u32, table: &[u64]) -> u64
     requires state { state < states question.now }
     requires length { length table.now ≡ states question.now }
@@ -50,7 +50,7 @@ fn least_up(question: &Question, state: u32, table: &[u64]) -> u64
     best
 }
 
-/// Gives the up step of a table at a state.
+/// Returns the up step of a table at a state.
 pub fn up_state(question: &Question, state: u32, table: &[u64]) -> u64
     requires state { state < states question.now }
     requires length { length table.now ≡ states question.now }

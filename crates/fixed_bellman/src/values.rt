@@ -14,7 +14,7 @@ pub trait Values {
 
     ghost onward: { Self → Self.Pass → Self.Pass → Type 0 };
 
-    /// Gives the value of a state.
+    /// Returns the value of a state.
     fn value(&self, pass: &mut Self::Pass, state: u32) -> u64
         requires fits { fits self.now pass.old state }
         ensures onward { onward self.now pass.old pass.new }

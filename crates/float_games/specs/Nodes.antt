@@ -8,15 +8,15 @@ use Rattle.float_games.specs.declared.chain.Chain.{Chain}
 use Rattle.float_games.specs.declared.draft.Draft.{Draft}
 use Rattle.std.specs.Float.{Float}
 
--- A game has so many nodes.
+-- A game has this many nodes.
 abbrev pub nodes_of : FloatGame → ℕ
 nodes_of g = vec_len g.maximises
 
--- A game has so many choices.
+-- A game has this many choices.
 abbrev pub choices_of : FloatGame → ℕ
 choices_of g = vec_len g.gives
 
--- A game has so many edges.
+-- A game has this many edges.
 abbrev pub edges_of : FloatGame → ℕ
 edges_of g = vec_len g.to
 
@@ -32,7 +32,7 @@ owner_of g node = slice_get g.maximises.items node
 abbrev pub has_both : FloatGame → Bool
 has_both g = is_among true g.maximises.items && is_among false g.maximises.items
 
--- A chain has so many nodes.
+-- A chain has this many nodes.
 abbrev pub nodes_in : Chain → ℕ
 nodes_in c = nodes_of c.game.now
 
@@ -55,10 +55,10 @@ successors_in c node = at_edges_of c node c.game.now.to.items
 abbrev pub shares_in : Chain → ℕ → List Float
 shares_in c node = at_edges_of c node c.game.now.share.items
 
--- So many nodes of a draft have ended.
+-- This many nodes of a draft have ended.
 abbrev pub ended_nodes : Draft → ℕ
 ended_nodes d = vec_len d.lists.maximises
 
--- So many choices of a draft have ended.
+-- This many choices of a draft have ended.
 abbrev pub ended_choices : Draft → ℕ
 ended_choices d = vec_len d.lists.gives

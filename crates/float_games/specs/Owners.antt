@@ -1,4 +1,4 @@
--- A side owns each node.
+-- This module defines which sides own nodes.
 use Rattle.std.specs.Prelude.{Bool, List}
 use Rattle.std.specs.Bool.{beq}
 use Rattle.std.specs.List.{list_any}

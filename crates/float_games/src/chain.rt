@@ -33,13 +33,13 @@ struct Row {
     end: u32,
 }
 
-/// No edge leads further: there are at most so many nodes.
+/// No edge leads further: there are at most this many nodes.
 const MOST: usize = 2_147_483_647;
 
 impl<'g> Chain<'g> {
     ghost use Rattle.float_games.specs.Nodes.{nodes_of, nodes_in, choice_in, successors_in, shares_in};
 
-    /// Gives the chain of a policy.
+    /// Returns the chain of a policy.
     pub fn of_policy(game: &'g FloatGame, policy: &'g [u32]) -> Chain<'g>
         requires { length policy.now ≡ nodes_of game.now }
         ensures { nodes_in result ≡ nodes_of game.now }
@@ -47,7 +47,7 @@ impl<'g> Chain<'g> {
         Chain { game, policy }
     }
 
-    /// Says how many nodes there are.
+    /// Returns how many nodes there are.
     pub fn nodes(&self) -> usize
         ensures value { result ≡ nodes_in self.now }
         ensures few { result < 2 ^ 31 }
@@ -55,7 +55,7 @@ impl<'g> Chain<'g> {
         self.game.maximises.len()
     }
 
-    /// Gives what each node gives, plus a cost.
+    /// Returns what each node gives, plus a cost.
     pub fn gives(&self, alloc: Global, cost: f64) -> Result<Vec<f64>, OutOfMemory>
         ensures { IfOk result (λ list. vec_len list ≡ nodes_in self.now) }
     {
@@ -67,7 +67,7 @@ impl<'g> Chain<'g> {
         Ok(list)
     }
 
-    /// Gives the share of probability with which each node leaves.
+    /// Returns the share of probability with which each node leaves.
     pub fn leaves(&self, alloc: Global) -> Result<Vec<f64>, OutOfMemory>
         ensures { IfOk result (λ list. vec_len list ≡ nodes_in self.now) }
     {
@@ -79,7 +79,7 @@ impl<'g> Chain<'g> {
         Ok(list)
     }
 
-    /// Gives the successors of a node.
+    /// Returns the successors of a node.
     pub fn successors(&self, node: usize) -> &[u32]
         requires { node < nodes_in self.now }
         ensures list { result.now ≡ successors_in self.now node }
@@ -92,7 +92,7 @@ impl<'g> Chain<'g> {
         &self.game.to[row.begin as usize..row.end as usize]
     }
 
-    /// Gives the shares of the edges of a node, in the order of its successors.
+    /// Returns the shares of the edges of a node, in the order of its successors.
     pub fn shares(&self, node: usize) -> &[f64]
         requires { node < nodes_in self.now }
         ensures list { result.now ≡ shares_in self.now node }
@@ -123,7 +123,7 @@ impl<'g> Chain<'g> {
     }
 
     /// Makes one pass in place: each value becomes the node's sum, plus the values of its successors by their shares.
-    /// Gives the greatest change.
+    /// Returns the greatest change.
     pub fn pass(&self, sums: &[f64], values: &mut [f64]) -> f64
         requires sums { length sums.now ≡ nodes_in self.now }
         requires values { length values.old ≡ nodes_in self.now }
@@ -173,8 +173,9 @@ impl<'g> Chain<'g> {
         }
     }
 
-    /// Gives what each value misses: what its node gives, and what its successors have more, by their shares, less what
-    /// the value has by the share with which the node leaves. The sum is made from differences, so it is nearly exact.
+    /// Returns what each value misses: what its node gives, and what its successors have more, by their shares, less
+    /// what the value has by the share with which the node leaves. The sum is made from differences, so it is nearly
+    /// exact.
     pub fn residuals(&self, alloc: Global, values: &[f64]) -> Result<Vec<f64>, OutOfMemory>
         requires { length values.now ≡ nodes_in self.now }
         ensures { IfOk result (λ list. vec_len list ≡ nodes_in self.now) }
@@ -186,7 +187,7 @@ impl<'g> Chain<'g> {
         Ok(list)
     }
 
-    /// Gives what the value of a node misses.
+    /// Returns what the value of a node misses.
     fn residual(&self, values: &[f64], node: usize) -> f64
         requires values { length values.now ≡ nodes_in self.now }
         requires node { node < nodes_in self.now }

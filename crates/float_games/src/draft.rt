@@ -23,8 +23,8 @@ pub struct Draft {
 impl Draft {
     ghost use Rattle.float_games.specs.Nodes.{nodes_of, choices_of, ended_nodes, ended_choices};
 
-    /// Makes an empty draft, with room for so many nodes, choices and edges. The only error of this and the other calls
-    /// is that memory ran out. More than 2^32 - 1 choices or edges are the same error.
+    /// Makes an empty draft, with room for this many nodes, choices and edges. The only error of this and the other
+    /// calls is that memory ran out. More than 2^32 - 1 choices or edges are the same error.
     pub fn new(
         alloc: Global,
         nodes: usize,
@@ -56,7 +56,7 @@ impl Draft {
         })
     }
 
-    /// Says how many choices have ended, which is the number of the next one.
+    /// Returns how many choices have ended, which is the number of the next one.
     pub fn choices(&self) -> usize
         ensures { result ≡ ended_choices self.now }
     {
@@ -146,7 +146,7 @@ fn divide_from(shares: &mut [f64], begin: usize, total: f64) {
     }
 }
 
-/// Gives a number that fits 32 bits, or an error.
+/// Returns a number that fits 32 bits, or an error.
 fn number_of(count: usize) -> Result<u32, OutOfMemory>
     ensures { IfOk result (λ n. n ≡ count) }
 {

@@ -100,7 +100,7 @@ impl FloatGame {
         })
     }
 
-    /// Says how many nodes there are.
+    /// Returns how many nodes there are.
     pub fn nodes(&self) -> usize
         ensures value { result ≡ nodes_of self.now }
         ensures few { result < 2 ^ 31 }
@@ -108,21 +108,21 @@ impl FloatGame {
         self.maximises.len()
     }
 
-    /// Says how many choices there are.
+    /// Returns how many choices there are.
     pub fn choices(&self) -> usize
         ensures { result ≡ choices_of self.now }
     {
         self.gives.len()
     }
 
-    /// Says how many edges there are.
+    /// Returns how many edges there are.
     pub fn edges(&self) -> usize
         ensures { result ≡ edges_of self.now }
     {
         self.to.len()
     }
 
-    /// Gives the mark of a choice, or [`NO_MARK`] if it is no choice of the game, or was added for a node that had
+    /// Returns the mark of a choice, or [`NO_MARK`] if it is no choice of the game, or was added for a node that had
     /// none.
     pub fn mark(&self, choice: u32) -> u32
         ensures { result ≡ mark_of self.now choice }
@@ -130,14 +130,14 @@ impl FloatGame {
         self.marks.get(choice as usize).copied().unwrap_or(NO_MARK)
     }
 
-    /// Says whether both sides own nodes.
+    /// Returns whether both sides own nodes.
     pub fn has_both_sides(&self) -> bool
         ensures { result ≡ has_both self.now }
     {
         self.both
     }
 
-    /// Says whether the maximiser owns a node.
+    /// Returns whether the maximiser owns a node.
     pub fn maximises(&self, node: usize) -> bool
         requires { node < nodes_of self.now }
         ensures { owner_of self.now node ≡ Some result }
@@ -145,7 +145,7 @@ impl FloatGame {
         self.maximises[node]
     }
 
-    /// Gives the policy of the first choices.
+    /// Returns the policy of the first choices.
     pub fn first_policy(&self, alloc: Global) -> Result<Vec<u32>, OutOfMemory>
         ensures { IfOk result (λ p. vec_len p ≡ nodes_of self.now) }
     {
@@ -157,21 +157,21 @@ impl FloatGame {
     }
 }
 
-/// Says whether some entry is this one.
+/// Returns whether some entry is this one.
 fn has(entries: &[bool], wanted: bool) -> bool
     ensures { result ≡ is_among wanted entries.now }
 {
     entries.iter().any(|entry| *entry == wanted)
 }
 
-/// Says whether each entry is at most this bound.
+/// Returns whether each entry is at most this bound.
 fn are_at_most(entries: &[u32], bound: usize) -> bool
     ensures { IsTrue result ↔ EachIndex entries.now (λ k. slice_index entries.now k ≤ bound) }
 {
     entries.iter().all(|entry| *entry as usize <= bound)
 }
 
-/// Says whether each entry is below this bound.
+/// Returns whether each entry is below this bound.
 fn are_below(entries: &[u32], bound: usize) -> bool
     ensures { IsTrue result ↔ EachIndex entries.now (λ k. slice_index entries.now k < bound) }
 {

@@ -29,5 +29,5 @@ pub use game::{FloatGame, NO_MARK};
 pub use rounded::{Bound, Rounded, whole_units};
 pub use sweeps::{Swept, bounded};
 
-/// Probability 1 is so many units.
+/// Probability 1 is this many units.
 pub const UNIT: f64 = 1_000_000_000_000_000.0;

@@ -19,16 +19,16 @@ pub enum Bound {
 /// A sweep of rounded steps counts the values that it changed and the choices that it looked at.
 #[derive(Clone, Copy, Debug, PartialEq, Eq)]
 pub struct Rounded {
-    /// So many values changed.
+    /// This many values changed.
     pub changed: usize,
-    /// So many choices were looked at.
+    /// This many choices were looked at.
     pub looked: u64,
 }
 
 /// Sums of differences may be off by so much, since values are whole units.
 const OFF: f64 = 0.3;
 
-/// Values may be off by so many units, since floats of this size are an eighth apart.
+/// Values may be off by this many units, since floats of this size are an eighth apart.
 const VALUE_OFF: f64 = 0.25;
 
 /// This is 2^52 and half of it. If it is added to a float below 2^51 in size, the sum has no fraction.
@@ -45,13 +45,13 @@ pub fn whole_units(bound: Bound, value: f64) -> f64
     })
 }
 
-/// Gives the greatest whole number that is not above a float below 2^51 in size.
+/// Returns the greatest whole number that is not above a float below 2^51 in size.
 fn floor_of(x: f64) -> f64 {
     let whole = (x + SHIFT) - SHIFT;
     if whole > x { whole - 1.0 } else { whole }
 }
 
-/// Gives the least whole number that is not below a float below 2^51 in size.
+/// Returns the least whole number that is not below a float below 2^51 in size.
 fn ceil_of(x: f64) -> f64 {
     let whole = (x + SHIFT) - SHIFT;
     if whole < x { whole + 1.0 } else { whole }

@@ -1,4 +1,4 @@
-//! Sweeps update the values of a game.
+//! This module has the sweeps that update the values of a game.
 
 ghost use Rattle.std.specs.Float.{◌<ᶠ◌, ◌≤ᶠ◌, float_zero};
 ghost use Rattle.std.specs.Prelude.{◌≡◌, ◌<◌, ◌≤◌, length, vec_len};
@@ -12,7 +12,7 @@ use crate::game::FloatGame;
 pub struct Swept {
     /// No value changed by more.
     pub change: f64,
-    /// So many nodes exchanged their choice.
+    /// This many nodes exchanged their choice.
     pub exchanged: u32,
 }
 
@@ -23,7 +23,7 @@ struct Best {
     choice: u32,
 }
 
-/// Gives the nearest value from 0 to the unit, or 0 for what is no number.
+/// Returns the nearest value from 0 to the unit, or 0 for what is no number.
 pub fn bounded(value: f64) -> f64
     ensures units { IsInUnits result }
     ensures same { float_zero <ᶠ value → value ≤ᶠ UNIT → result ≡ value }
@@ -41,7 +41,7 @@ impl FloatGame {
     ghost use Rattle.float_games.specs.Nodes.{nodes_of};
 
     /// Makes one sweep in place over all nodes: each gets the value of its choice, plus a cost. The policy's choice is
-    /// exchanged for the best one if that gains more than `gain`. Gives the greatest change and the number of
+    /// exchanged for the best one if that gains more than `gain`. Returns the greatest change and the number of
     /// exchanges.
     pub fn sweep(&self, cost: f64, gain: f64, values: &mut [f64], policy: &mut [u32]) -> Swept
         requires values { length values.old ≡ nodes_of self.now }
@@ -99,7 +99,7 @@ impl FloatGame {
 
     /// Makes one sweep in place under a policy: each node gets the value of its choice, plus a cost. If both sides own
     /// nodes, the minimiser's nodes get the value of their best choice instead, so that values from below stay below.
-    /// Gives the greatest change.
+    /// Returns the greatest change.
     pub fn sweep_policy(&self, cost: f64, values: &mut [f64], policy: &[u32]) -> f64
         requires values { length values.old ≡ nodes_of self.now }
         requires policy { length policy.now ≡ nodes_of self.now }
@@ -143,8 +143,8 @@ impl FloatGame {
         change
     }
 
-    /// Exchanges choices of one side for better ones over these values, if they gain more than `gain`. Gives the number
-    /// of exchanges.
+    /// Exchanges choices of one side for better ones over these values, if they gain more than `gain`. Returns the
+    /// number of exchanges.
     pub fn improve(&self, side: bool, gain: f64, values: &[f64], policy: &mut [u32]) -> u32
         requires values { length values.now ≡ nodes_of self.now }
         requires policy { length policy.old ≡ nodes_of self.now }
@@ -172,7 +172,7 @@ impl FloatGame {
         exchanged
     }
 
-    /// Gives the best choice of a node over these values.
+    /// Returns the best choice of a node over these values.
     fn best(&self, values: &[f64], node: usize) -> Best
         requires values { length values.now ≡ nodes_of self.now }
         requires node { node < nodes_of self.now }
@@ -198,7 +198,7 @@ impl FloatGame {
         best
     }
 
-    /// Gives the value of a choice.
+    /// Returns the value of a choice.
     fn value_of(&self, values: &[f64], choice: usize) -> f64
         requires values { length values.now ≡ nodes_of self.now }
         requires choice { choice < vec_len self.now.gives }

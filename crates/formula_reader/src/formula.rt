@@ -56,7 +56,7 @@ pub enum Comparison {
 impl Comparison {
     ghost use Rattle.formula_reader.specs.inside.Bounds.{bound_with};
 
-    /// Gives the bound that compares with this threshold.
+    /// Returns the bound that compares with this threshold.
     pub fn bound(self, threshold: Frac) -> Bound
         ensures { result ≡ bound_with self threshold }
     {

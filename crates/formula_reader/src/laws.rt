@@ -1,4 +1,5 @@
-//! These are laws of formulas and the texts that denote them. Each function does nothing: its contract is the law.
+//! This module has the laws of formulas and the texts that denote them. Each function does nothing: its contract is the
+//! law.
 
 ghost use Rattle.std.specs.Prelude.{◌≡◌, ◌≤◌, ◌++◌, ◌↔◌, ℕ, List, Ok, length};
 ghost use Rattle.formula_reader.specs.Formula.{Tree, formulas_inside};

@@ -40,7 +40,7 @@ fn plain_state<'a>(alloc: Global, token: Token<'a>) -> Read<'a>
     }
 }
 
-// Gives the name between the first byte and the last.
+// Returns the name between the first byte and the last.
 fn label(alloc: Global, spelling: &[u8]) -> Result<Name, FormulaFault>
     ensures { MatchResult result (λ name. name ≡ unquoted spelling.now) IsOutOfMemory }
 {

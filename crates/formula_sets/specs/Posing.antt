@@ -1,4 +1,4 @@
--- A formula poses a question.
+-- This module defines the question that a formula poses.
 use Rattle.std.specs.Prelude.{◌≡◌, ◌≢◌, ◌<◌, ℕ, Bool, true, false, not, ◌&&◌, List, [], ◌∷◌, ◌++◌, length, map}
 use Rattle.std.specs.Prelude.{slice_index, Option, Some, None, Result, Ok, Err, All, if◌then◌else◌, codes}
 use Rattle.std.specs.List.{range_with_len}

@@ -1,4 +1,4 @@
--- A side chooses at each state.
+-- This module defines the side that chooses at each state.
 use Rattle.std.specs.Prelude.{ℕ, Bool, not, List, [], ◌++◌, Option, Some, None, bytes_eq, find, if◌then◌else◌}
 use Rattle.std.specs.List.{list_any}
 use Rattle.game_model.specs.declared.game.Side.{Side}

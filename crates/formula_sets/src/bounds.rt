@@ -6,7 +6,7 @@ ghost use Rattle.formula_sets.specs.Sides.{coalition_side, common_side};
 use formula_reader::Bound;
 use game_model::Side;
 
-/// Gives the side of a coalition.
+/// Returns the side of a coalition.
 pub fn coalition_side_of(bound: &Bound) -> Side
     ensures { result ≡ coalition_side bound.now }
 {
@@ -16,7 +16,7 @@ pub fn coalition_side_of(bound: &Bound) -> Side
     }
 }
 
-/// Gives the side of all states if no coalition is named.
+/// Returns the side of all states if no coalition is named.
 pub fn common_side_of(bound: &Bound) -> Side
     ensures { result ≡ common_side bound.now }
 {

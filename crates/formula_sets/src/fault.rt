@@ -18,7 +18,7 @@ pub enum PoseFault {
 }
 
 impl PoseFault {
-    // Gives the fault that no label has this name.
+    // Returns the fault that no label has this name.
     pub(crate) fn label(alloc: Global, name: &Name) -> PoseFault
         ensures { (result ≡ PoseFault.OutOfMemory) ⊎ (result ≡ PoseFault.UnknownLabel name.now) }
     {
@@ -28,7 +28,7 @@ impl PoseFault {
         }
     }
 
-    // Gives the fault that no player has this name.
+    // Returns the fault that no player has this name.
     pub(crate) fn player(alloc: Global, name: &Name) -> PoseFault
         ensures { (result ≡ PoseFault.OutOfMemory) ⊎ (result ≡ PoseFault.UnknownPlayer name.now) }
     {

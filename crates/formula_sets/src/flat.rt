@@ -5,7 +5,7 @@ ghost use Rattle.formula_reader.specs.Formula.{is_flat, state_of};
 
 use formula_reader::{Formula, StateFormula};
 
-/// Says whether no formula is inside the sides of a formula.
+/// Returns whether no formula is inside the sides of a formula.
 pub fn is_flat(formula: &Formula) -> bool
     ensures { result ≡ (is_flat (state_of formula.now.left) && is_flat (state_of formula.now.right)) }
 {

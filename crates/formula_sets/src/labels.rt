@@ -12,7 +12,7 @@ use game_outside::Name;
 use label_reader::Labels;
 use std::alloc::{AllocError, Global};
 
-/// Gives the same mark to each of `states` states.
+/// Returns the same mark for each of `states` states.
 #[tactic(auto, using(crate::proofs::Marked::filled))]
 pub fn same_marks(alloc: Global, mark: bool, states: u32) -> Result<Vec<bool>, AllocError>
     ensures { IfOk result (λ v. v.items ≡ at_states (λ s. mark) states) }
@@ -80,7 +80,7 @@ pub fn marks_of(
     }
 }
 
-// Gives the first unknown label that a state formula names.
+// Returns the first unknown label that a state formula names.
 #[tactic(auto, using(crate::proofs::Finding::first_unknown_of))]
 fn first_unknown<'a>(labels: &Labels, formula: &'a StateFormula) -> Option<&'a Name>
     ensures { option_copied result ≡ unknown_label labels.now (labels_in (state_of formula.now)) }
@@ -104,7 +104,7 @@ fn first_unknown<'a>(labels: &Labels, formula: &'a StateFormula) -> Option<&'a N
     }
 }
 
-/// Gives the first unknown label that a formula names.
+/// Returns the first unknown label that a formula names.
 #[tactic(auto, using(crate::proofs::Finding::first_unknown_of))]
 pub fn unknown_label_of<'a>(labels: &Labels, formula: &'a Formula) -> Option<&'a Name>
     ensures { option_copied result ≡ unknown_label labels.now (formula_labels (tree_of formula.now)) }

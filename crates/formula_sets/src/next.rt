@@ -27,14 +27,14 @@ pub struct PosedNext<'g> {
     pub initial: Vec<u32>,
 }
 
-// Gives probability 1 for a mark, and otherwise 0, in units.
+// Returns probability 1 for a mark, and otherwise 0, in units.
 fn units_at(mark: bool) -> u64
     ensures { result ≡ (if mark then unit else 0) }
 {
     if mark { UNIT } else { 0 }
 }
 
-/// Gives probability 1 for each mark, and otherwise 0, in units.
+/// Returns probability 1 for each mark, and otherwise 0, in units.
 pub fn units_of(alloc: Global, marks: &[bool]) -> Result<Vec<u64>, AllocError>
     ensures { IfOk result (λ table. table.items ≡ at_states (λ s. if slice_index_or marks.now s false then unit else 0)
         (length marks.now)) }

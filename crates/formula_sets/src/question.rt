@@ -25,7 +25,7 @@ pub struct Posed<'g> {
     pub initial: Vec<u32>,
 }
 
-/// Gives the side that chooses at each of `states` states.
+/// Returns the side that chooses at each of `states` states.
 pub fn sides_of(
     alloc: Global,
     owners: &Owners,
@@ -79,7 +79,7 @@ fn question_in<'g>(
     Ok(Question::build(game, sides, goals, deads))
 }
 
-/// Gives the states with the label `init` in rising order, or the first reason why a formula poses no question.
+/// Returns the states with the label `init` in rising order, or the first reason why a formula poses no question.
 pub fn initial_of(
     alloc: Global,
     labels: &Labels,

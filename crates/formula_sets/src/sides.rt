@@ -22,7 +22,7 @@ fn is_member_of(names: &[Name], name: &[u8]) -> bool
     false
 }
 
-/// Gives the side that chooses at a state.
+/// Returns the side that chooses at a state.
 pub fn side_at_state(owners: &Owners, coalition: &Option<Names>, bound: &Bound, state: u32) -> Side
     requires { state < length owners.now.owners }
     ensures { result ≡ side_of (option_map names_of coalition.now) bound.now owners.now state }
@@ -40,7 +40,7 @@ pub fn side_at_state(owners: &Owners, coalition: &Option<Names>, bound: &Bound, 
     }
 }
 
-// Gives the first of these players that is unknown.
+// Returns the first of these players that is unknown.
 fn first_stranger<'a>(owners: &Owners, names: &'a [Name]) -> Option<&'a Name>
     ensures { option_copied result ≡ unknown_player owners.now names.now }
 {
@@ -52,7 +52,7 @@ fn first_stranger<'a>(owners: &Owners, names: &'a [Name]) -> Option<&'a Name>
     None
 }
 
-// Gives the first unknown player of a coalition.
+// Returns the first unknown player of a coalition.
 fn first_stranger_of<'a>(owners: &Owners, coalition: &'a Option<Names>) -> Option<&'a Name>
     ensures { option_copied result ≡ unknown_player owners.now (members_of (option_map names_of coalition.now)) }
 {
@@ -62,7 +62,7 @@ fn first_stranger_of<'a>(owners: &Owners, coalition: &'a Option<Names>) -> Optio
     }
 }
 
-// Gives the first unknown player that a state formula names.
+// Returns the first unknown player that a state formula names.
 #[tactic(auto, using(crate::proofs::Finding::first_stranger_of))]
 fn first_stranger_in<'a>(owners: &Owners, formula: &'a StateFormula) -> Option<&'a Name>
     ensures { option_copied result ≡ unknown_player owners.now (players_in (state_of formula.now)) }
@@ -79,7 +79,7 @@ fn first_stranger_in<'a>(owners: &Owners, formula: &'a StateFormula) -> Option<&
     }
 }
 
-/// Gives the first unknown player that a formula names.
+/// Returns the first unknown player that a formula names.
 #[tactic(auto, using(crate::proofs::Finding::first_stranger_of))]
 pub fn unknown_player_of<'a>(owners: &Owners, formula: &'a Formula) -> Option<&'a Name>
     ensures { option_copied result ≡ unknown_player owners.now (formula_players (tree_of formula.now)) }

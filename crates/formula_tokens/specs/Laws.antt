@@ -1,4 +1,4 @@
--- The laws of tokens use these words.
+-- This module defines the terms of the laws of tokens.
 use Rattle.std.specs.Prelude.{◌≡◌, ◌⊎◌, ℕ, List, [], ◌∷◌, Option, Some, None}
 use Rattle.formula_tokens.specs.declared.fault.FormulaCause.{FormulaCause}
 use Rattle.formula_tokens.specs.Tokens.{Tokens, Finish, Broken, Then}

@@ -17,7 +17,7 @@ pub enum Front {
     Strange,
 }
 
-/// Gives the front of a text that begins with this byte.
+/// Returns the front of a text that begins with this byte.
 pub fn front_of(first: u8, rest: &[u8]) -> Front
     requires { length rest.now ≤ longest }
     ensures value { result ≡ front_from first rest.now }

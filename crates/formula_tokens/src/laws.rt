@@ -1,4 +1,4 @@
-//! These are laws of tokens. Each function does nothing: its contract is the law.
+//! This module has the laws of tokens. Each function does nothing: its contract is the law.
 
 ghost use Rattle.std.specs.Prelude.{◌≡◌, ◌++◌, ◌↔◌, ℕ, List, None, length};
 ghost use Rattle.formula_tokens.specs.Laws.{AreTokens, AreAlike, IsBlank, StandsAt, spellings_of, cause_of};

@@ -28,14 +28,14 @@ pub enum Lead<'a> {
 }
 
 impl<'a> Token<'a> {
-    /// Says whether the token has this spelling.
+    /// Returns whether the token has this spelling.
     pub fn is(&self, spelling: &str) -> bool
         ensures { result ≡ bytes_eq self.now.spelling.now spelling.now }
     {
         self.spelling == spelling.as_bytes()
     }
 
-    /// Says whether the token is a number: it begins with a digit.
+    /// Returns whether the token is a number: it begins with a digit.
     pub fn is_number(&self) -> bool
         ensures { result ≡ is_number self.now.spelling.now }
     {
@@ -50,7 +50,7 @@ impl<'a> Token<'a> {
     }
 }
 
-/// Gives what comes next.
+/// Returns what comes next.
 pub fn next_lead<'a>(cursor: Cursor<'a>) -> Lead<'a>
     ensures { Leads (tokens_at cursor.entry) result }
 {
@@ -95,7 +95,7 @@ fn cut<'a>(place: u32, rest: &'a [u8], count: usize) -> Lead<'a>
     })
 }
 
-/// Gives the next token, which has to be there.
+/// Returns the next token, which has to be there.
 pub fn next_token<'a>(cursor: Cursor<'a>) -> Result<Token<'a>, FormulaFault>
     ensures { IsResult token_of result (next (tokens_at cursor.entry)) }
 {
@@ -106,7 +106,7 @@ pub fn next_token<'a>(cursor: Cursor<'a>) -> Result<Token<'a>, FormulaFault>
     }
 }
 
-/// Gives what is left behind this token, which has to come next.
+/// Returns what is left behind this token, which has to come next.
 pub fn behind<'a>(cursor: Cursor<'a>, spelling: &str) -> Result<Cursor<'a>, FormulaFault>
     ensures { IsResult tokens_at result (behind spelling.now (tokens_at cursor.entry)) }
 {
@@ -118,7 +118,7 @@ pub fn behind<'a>(cursor: Cursor<'a>, spelling: &str) -> Result<Cursor<'a>, Form
     }
 }
 
-/// Gives what is left behind this token, if it comes next.
+/// Returns what is left behind this token, if it comes next.
 pub fn behind_if<'a>(cursor: Cursor<'a>, spelling: &str) -> Option<Cursor<'a>>
     ensures { follows spelling.now (tokens_at cursor.entry) ≡ option_map tokens_at result }
 {

@@ -1,5 +1,5 @@
--- This file defines the bounds that are found for a formula whose sides are known in part: lower ones for the question
--- of the sure states, and upper ones for that of the possible states.
+-- This module defines the bounds that are found for a formula whose sides are known in part: lower ones for the
+-- question of the sure states, and upper ones for that of the possible states.
 use Rattle.std.specs.Prelude.{◌≡◌, ℕ, Bool, List, if◌then◌else◌}
 use Rattle.std.specs.List.{range_with_len}
 use Rattle.game_model.specs.Limits.{unit}
@@ -43,8 +43,8 @@ pub record IsRun (q : Query) (bound : Bound) (starts : List ℕ) (asked : ℕ) (
   pub upper_is : upper ≡ found.upper.items
   pub rounds : how ≡ Rounds found.rounds
 
--- The bounds are those of a plan of a question that passes the checks of an audit and is sound. They are 1 and 0
--- exactly where the graph says so.
+-- The bounds are those of a plan of a question that passes the checks of an audit and is sound. The lower bound is 1
+-- exactly at the almost-sure states, and the upper bound is 0 exactly at the states of value 0.
 pub record IsPlanned (q : Query) (lower upper : List ℕ) (how : How) : Type 0 where
   pub plan : Plan
   pub lists : HasStates plan (states_in q)
@@ -62,7 +62,7 @@ IsAnsweredBy (ByRounds asked) q bound starts lower upper how = IsRun q bound sta
 IsAnsweredBy BySolver q bound starts lower upper how = IsPlanned q lower upper how
 
 -- The lower bounds are those of an answer to one question, and the upper ones those of an answer to another. If the
--- questions are the same, so is the answer.
+-- questions are the same, they are the bounds of one answer.
 pub record AreAnswered (low high : Query) (bound : Bound) (starts : List ℕ) (way : Way) (band : Band)
     (how : How) : Type 0 where
   pub low_upper : List ℕ

@@ -1,4 +1,4 @@
--- This file says what bounds and verdicts say of the truth.
+-- This module says what bounds and verdicts say of the truth.
 use Rattle.std.specs.Prelude.{◌≡◌, ◌<◌, ◌≤◌, ◌*◌, ◌^◌, ℕ, Bool, true, false, slice_index}
 use Rattle.game_model.specs.Limits.{unit}
 use Rattle.game_model.specs.Values.{denominator, numerator}

@@ -1,4 +1,4 @@
--- This file says when formulas are true at the states of a model. A formula inside a state formula holds where it is
+-- This module says when formulas are true at the states of a model. A formula inside a state formula holds where it is
 -- true.
 use Rattle.std.specs.Prelude.{◌≡◌, ◌<◌, ◌^◌, ◌↔◌, ◌&&◌, ◌||◌, ℕ, Bool, true, false, not, length}
 use Rattle.game_model.specs.Query.{Query}

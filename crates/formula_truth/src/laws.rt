@@ -1,4 +1,4 @@
-//! This module has laws of truth, of values and of bounds. Each function does nothing: its contract is the law.
+//! This module has the laws of truth, of values and of bounds. Each function does nothing: its contract is the law.
 
 mod coarse;
 mod truth;

@@ -73,7 +73,7 @@ fn split_digits(text: &[u8]) -> (&[u8], &[u8])
     text.split_at(digits_length(text))
 }
 
-// Says whether the text is one or more digits, and nothing else.
+// Returns whether the text is one or more digits, and nothing else.
 #[tactic(auto, using(crate::proofs::Spelled::digits_whole))]
 fn only_digits(text: &[u8]) -> bool
     ensures { result ≡ (not (is_nil text.now) && all_digits text.now) }

@@ -1,4 +1,4 @@
--- Ranks show that the values reach a lower table.
+-- This module defines when choices and ranks prove that the values reach a lower table.
 use Rattle.std.specs.Prelude.{◌≡◌, ℕ, ◌+◌, ◌*◌, ◌^◌, ◌<◌, ◌≤◌, ◌⊎◌, true, false, List, length, slice_index}
 use Rattle.std.specs.Prelude.{slice_index_or, Option, Some, None}
 use Rattle.game_model.specs.declared.game.Side.TheVariants.{Max, Min}
@@ -25,8 +25,8 @@ pub record HasRankedChoice (q : Query) (value rank : ℕ → ℕ) (choices : Lis
   pub inside : choice < length (choices_of q.game s)
   pub ranked : IsRankedChoice value rank s (choice_of q.game s choice)
 
--- The ranks certify the values if `top` units are probability 1. At a state of positive value that is neither goal nor
--- dead, the maximiser is given a ranked choice, and every choice of the minimiser is ranked.
+-- Choices and ranks prove the values if `top` units are probability 1. At a state of positive value that is neither
+-- goal nor dead, the maximiser is given a ranked choice, and every choice of the minimiser is ranked.
 pub record RankedIn (top : ℕ) (q : Query) (values : List ℕ) (choices : List (Option ℕ)) (ranks : List ℕ) : Type 0 where
   pub units : (s : ℕ) → s < length q.game → slice_index values s ≤ top
   pub goals : (s : ℕ) → s < length q.game → is_goal q s ≡ true → slice_index values s ≡ top
@@ -39,7 +39,7 @@ pub record RankedIn (top : ℕ) (q : Query) (values : List ℕ) (choices : List 
       → (c : ℕ) → c < length (choices_of q.game s)
       → IsRankedChoice (slice_index values) (slice_index ranks) s (choice_of q.game s c)
 
--- The ranks certify the values, in units.
+-- Choices and ranks prove the values, in units.
 abbrev pub Ranked : Query → List ℕ → List (Option ℕ) → List ℕ → Type 0
 Ranked q values choices ranks = RankedIn unit q values choices ranks
 

@@ -26,14 +26,15 @@ pub fn values_at_most_one()
     ensures { (q : Query) (k s : ℕ) → IsQuery q → numerator q k s ≤ denominator q.game ^ k }
 {}
 
-/// The value of not being lost after k steps, and the value with which the other side reaches the lost states within k
-/// steps, add up to 1.
+/// Let the lost states be those of value 0. Then the value of not being lost after k steps and the value with which the
+/// other side reaches the lost states within k steps add up to 1.
 pub fn swap_law()
     ensures { (q : Query) (lost : List Bool) → IsQuery q → IsZeroSet q lost →
         (k s : ℕ) → s < states q → open_numerator q lost k s + numerator (swapped q lost) k s ≡ denominator q.game ^ k }
 {}
 
-/// A k-step value is at most the value of not being lost after any number of steps.
+/// Let the lost states be those of value 0. Then a k-step value is at most the value of not being lost after any number
+/// of steps.
 pub fn values_below_open_values()
     ensures { (q : Query) (lost : List Bool) → IsQuery q → IsZeroSet q lost →
         (k j s : ℕ) → s < states q → numerator q k s * denominator q.game ^ j

@@ -96,7 +96,7 @@ impl<'g> Question<'g> {
         self.sides[state as usize]
     }
 
-    /// Says whether a state is a goal.
+    /// Returns whether a state is a goal.
     pub fn is_goal(&self, state: u32) -> bool
         requires { state < states self.now }
         ensures { result ≡ is_goal self.now state }
@@ -104,7 +104,7 @@ impl<'g> Question<'g> {
         self.goals[state as usize]
     }
 
-    /// Says whether a state is dead.
+    /// Returns whether a state is dead.
     pub fn is_dead(&self, state: u32) -> bool
         requires { state < states self.now }
         ensures { result ≡ is_dead self.now state }
@@ -139,7 +139,7 @@ impl Marks {
         Marks { marks }
     }
 
-    /// Says whether a state is marked.
+    /// Returns whether a state is marked.
     pub fn has(&self, state: u32) -> bool
         requires { state < length self.now }
         ensures { result ≡ slice_index_or self.now state false }

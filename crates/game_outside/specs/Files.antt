@@ -8,7 +8,7 @@ use Rattle.game_outside.specs.declared.shelf.Shelf.{Ghosts}
 use Rattle.game_outside.specs.Outside.{Holding, Holds, IsHeldAs, IsHeldLonger}
 use Rattle.game_outside.specs.Reading.{ReadingLeaves}
 
--- There is a text within the limit for which `Holds` is true. If the holding is told, it is the text under the name.
+-- There is a text within the limit for which `Holds` is true. If the holding is known, it is the text under the name.
 pub record HeldTextWith (holding : Option Holding) (name : List ℕ) (limit : ℕ) (Holds : List ℕ → Type 0) : Type 0 where
   pub text : List ℕ
   pub told : IsHeldAs holding name text

@@ -78,7 +78,7 @@ impl LineText {
         })
     }
 
-    /// Says whether no call was refused.
+    /// Returns whether no call was refused.
     pub fn is_open(&self) -> bool
         ensures { result ≡ not self.now.closed }
     {
@@ -242,7 +242,7 @@ fn end_line(line: &mut Vec<u8>)
     line.truncate(length);
 }
 
-// Says whether these are the bytes of a last line, which has no ending.
+// Returns whether these are the bytes of a last line, which has no ending.
 fn is_last(line: &[u8]) -> bool
     requires { HasNo 10 line.now }
     ensures last { result ≡ true → lines_of line.now ≡ line.now ∷ [] }

@@ -9,7 +9,7 @@ use Rattle.game_model.specs.Plans.{numerator_under}
 use Rattle.fixed_bellman.specs.Given.{IsFree}
 use Rattle.inductive_check.specs.Held.{IsHeldAt, IsFirstHeld}
 
--- The state is one of the minimiser, and neither a goal nor dead.
+-- The state is one of the minimiser, and neither goal nor dead.
 pub record NeedsReply (q : Query) (s : ℕ) : Type 0 where
   pub free : IsFree q s
   pub least : side_at q s ≡ Min

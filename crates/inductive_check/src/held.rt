@@ -9,7 +9,7 @@ ghost use Rattle.inductive_check.specs.Held.{IsHeldAt, AllHeld, NoneHeld, IsFirs
 use fixed_bellman::holds;
 use game_model::Question;
 
-/// Says whether a choice is held to the entry of its state.
+/// Returns whether a choice is held to the entry of its state.
 pub fn is_held(question: &Question, upper: &[u64], state: u32, choice: u32) -> bool
     requires length { length upper.now ≡ states question.now }
     requires units { All (λ v. v ≤ unit) upper.now }
@@ -21,7 +21,7 @@ pub fn is_held(question: &Question, upper: &[u64], state: u32, choice: u32) -> b
     holds(&question.row(state), choice, upper, upper[state as usize])
 }
 
-/// Gives the first choice of a state that is held.
+/// Returns the first choice of a state that is held.
 pub fn first_held(question: &Question, upper: &[u64], state: u32) -> Option<u32>
     requires length { length upper.now ≡ states question.now }
     requires units { All (λ v. v ≤ unit) upper.now }
@@ -37,7 +37,7 @@ pub fn first_held(question: &Question, upper: &[u64], state: u32) -> Option<u32>
     None
 }
 
-/// Gives the first choice of a state that is not held.
+/// Returns the first choice of a state that is not held.
 pub fn first_unheld(question: &Question, upper: &[u64], state: u32) -> Option<u32>
     requires length { length upper.now ≡ states question.now }
     requires units { All (λ v. v ≤ unit) upper.now }

@@ -1,4 +1,5 @@
-//! These are laws of upper tables and of replies to them. Each function does nothing: its contract is the law.
+//! This module has the laws of upper tables and of replies to them. Each function does nothing: its contract is the
+//! law.
 
 ghost use Rattle.std.specs.Prelude.{◌≡◌, ℕ, List, min, slice_index};
 ghost use Rattle.game_model.specs.Query.{Query, IsQuery};

@@ -14,7 +14,7 @@ use game_outside::OutOfMemory;
 use std::alloc::Global;
 
 /// Checks replies, one for each state, to a table that [`crate::check_upper`] passes: the reply of each state of the
-/// minimiser that is neither a goal nor dead is a choice that is held to its entry. The replies of other states are not
+/// minimiser that is neither goal nor dead is a choice that is held to its entry. The replies of other states are not
 /// read. Then the minimiser who plays them holds every opponent to the table at every horizon. Else the fault names the
 /// first state with no such reply. It takes no memory.
 pub fn check_replies(
@@ -44,7 +44,7 @@ pub fn check_replies(
     Ok(())
 }
 
-/// Says whether a reply is held to the entry of its state, if the state needs one.
+/// Returns whether a reply is held to the entry of its state, if the state needs one.
 fn answers(question: &Question, upper: &[u64], state: u32, reply: Option<u32>) -> bool
     requires length { length upper.now ≡ states question.now }
     requires units { All (λ v. v ≤ unit) upper.now }
@@ -63,7 +63,7 @@ fn answers(question: &Question, upper: &[u64], state: u32, reply: Option<u32>) -
     }
 }
 
-/// Says whether a state is one of the minimiser, and neither a goal nor dead.
+/// Returns whether a state is one of the minimiser, and neither goal nor dead.
 fn needs_reply(question: &Question, state: u32) -> bool
     requires { state < states question.now }
     ensures { IsTrue result ↔ NeedsReply question.now state }
@@ -77,8 +77,8 @@ fn needs_reply(question: &Question, state: u32) -> bool
     }
 }
 
-/// Gives the first replies to a table that [`crate::check_upper`] passes: for each state of the minimiser that is
-/// neither a goal nor dead the first choice that is held to its entry, and none for each other state. The minimiser who
+/// Returns the first replies to a table that [`crate::check_upper`] passes: for each state of the minimiser that is
+/// neither goal nor dead the first choice that is held to its entry, and none for each other state. The minimiser who
 /// plays them holds every opponent to the table at every horizon. The only error is that memory ran out.
 pub fn replies(
     alloc: Global,
@@ -100,7 +100,7 @@ pub fn replies(
     Ok(replies)
 }
 
-/// Gives the first choice of a state that is held to its entry, if the state needs a reply.
+/// Returns the first choice of a state that is held to its entry, if the state needs a reply.
 fn reply_of(question: &Question, upper: &[u64], state: u32) -> Option<u32>
     requires length { length upper.now ≡ states question.now }
     requires units { All (λ v. v ≤ unit) upper.now }

@@ -40,8 +40,8 @@ pub struct UpperFault {
 }
 
 /// Checks that a table of units, by state, is inductive: no entry is above the unit, and no state's up value is above
-/// its entry. Then no value of k steps is above the table. An entry above the unit, at any state, comes before every
-/// other fault. It takes no memory.
+/// its entry. Then no k-step value is above the table. An entry above the unit, at any state, comes before every other
+/// fault. It takes no memory.
 pub fn check_upper(question: &Question, upper: &[u64]) -> Result<(), UpperFault>
     requires length { length upper.now ≡ states question.now }
     ensures ok { IsOk result ↔ (All (λ v. v ≤ unit) upper.now × IsInductive question.now (slice_index upper.now)) }

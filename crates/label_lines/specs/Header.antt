@@ -12,7 +12,7 @@ use Rattle.label_lines.specs.declared.faults.LabCause.TheVariants.{NoHeader, Bad
 use Rattle.label_lines.specs.declared.faults.LabCause.TheVariants.{DoubleName}
 use Rattle.label_lines.specs.Limits.{most_labels, most_players, greatest_index, longest_name}
 
--- An item of a header is the index of a name.
+-- An item of a header gives an index to a name.
 pub record Item : Type 0 where
   pub index : ℕ
   pub name : List ℕ

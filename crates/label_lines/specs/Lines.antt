@@ -19,7 +19,7 @@ pub record StateLine : Type 0 where
 abbrev pub is_number : List ℕ → Bool
 is_number field = is_some (number_of field)
 
--- This is the number that a field spells.
+-- This is the number that a field spells, and 0 if it spells none.
 abbrev pub number_in : List ℕ → ℕ
 number_in field = unwrap_or (number_of field) 0
 

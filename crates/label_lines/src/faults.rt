@@ -42,21 +42,21 @@ impl LabFault {
     ghost use Rattle.std.specs.Prelude.{◌≡◌};
     ghost use Rattle.label_lines.specs.Texts.{fault_at, GivesFault};
 
-    /// Gives the fault of a line with this cause.
+    /// Returns the fault of a line with this cause.
     pub fn at(line: u32, cause: LabCause) -> LabFault
         ensures { result ≡ fault_at line cause }
     {
         LabFault { line, cause }
     }
 
-    /// Gives the fault that memory ran out.
+    /// Returns the fault that memory ran out.
     pub fn out_of_memory() -> LabFault
         ensures { result ≡ fault_at 0 LabCause.OutOfMemory }
     {
         LabFault::at(0, LabCause::OutOfMemory)
     }
 
-    /// Gives the fault of a header with this cause.
+    /// Returns the fault of a header with this cause.
     pub(crate) fn of_header(cause: LabCause) -> LabFault
         ensures { GivesFault cause result }
     {

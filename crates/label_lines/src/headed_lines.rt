@@ -22,7 +22,7 @@ pub trait BehindHeader: LineReader<Fault = LabFault> {
     /// This is what a header's items and the lines behind it make, for a number of states.
     ghost make: { ℕ → List Item → List StateLine → Self.Made };
 
-    /// Gives the kind of its files.
+    /// Returns the kind of its files.
     fn kind() -> FileKind
         ensures { result ≡ kind };
 

@@ -48,7 +48,7 @@ impl Header {
         }
     }
 
-    /// Gives the number of items.
+    /// Returns the number of items.
     pub fn len(&self) -> usize
         ensures len { result ≡ length self.now }
         ensures single { AreSingle self.now }
@@ -57,7 +57,7 @@ impl Header {
         self.names.len()
     }
 
-    /// Gives the names with their indices.
+    /// Returns the names with their indices.
     pub fn into_names(self) -> IndexMap<Vec<u8>, u64>
         ensures { items_of result.entries ≡ self }
     {
@@ -65,7 +65,7 @@ impl Header {
         names
     }
 
-    /// Gives the place of the item whose index a field spells.
+    /// Returns the place of the item whose index a field spells.
     pub fn place(&self, field: &[u8]) -> Option<u32>
         ensures value { result ≡ place_in self.now field.now }
         ensures within { IfSome result (λ place. place < length self.now) }
@@ -76,7 +76,7 @@ impl Header {
         }
     }
 
-    // Says whether an item with this index would pass a limit.
+    // Returns whether an item with this index would pass a limit.
     fn is_over(&self, kind: FileKind, index: u64) -> bool
         ensures { result ≡ passes_limit kind self.now index }
     {

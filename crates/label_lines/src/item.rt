@@ -8,7 +8,7 @@ ghost use Rattle.label_lines.specs.Header.{Item, quoted, is_name, has_name_bytes
 use crate::kind::{FileKind, LONGEST_NAME};
 use text_lines::{split_at_first, whole};
 
-// Gives what is between two quotes.
+// Returns what is between two quotes.
 fn unquoted(bytes: &[u8]) -> Option<&[u8]>
     ensures { MatchOption result (quoted bytes.now ≡ None) (λ r. quoted bytes.now ≡ Some r.now) }
 {

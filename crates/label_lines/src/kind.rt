@@ -1,4 +1,4 @@
-//! Two kinds of files have one format.
+//! This module has the two kinds of files that have one format.
 
 ghost use Rattle.std.specs.Prelude.{◌≡◌, ◌<◌};
 
@@ -26,7 +26,7 @@ pub enum FileKind {
 impl FileKind {
     ghost use Rattle.label_lines.specs.Header.{most_items};
 
-    /// Gives the greatest number of items of a header.
+    /// Returns the greatest number of items of a header.
     pub(crate) fn most_items(self) -> usize
         ensures { result ≡ most_items self }
     {

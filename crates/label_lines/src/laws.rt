@@ -1,4 +1,4 @@
-//! These are laws of labels and owners. Each function does nothing: its contract is the law.
+//! This module has the laws of labels and owners. Each function does nothing: its contract is the law.
 ghost use Rattle.std.specs.Prelude.{◌≡◌, ◌==◌, ◌↔◌, ℕ, List, Ok};
 ghost use Rattle.std.specs.List.{list_any};
 ghost use Rattle.std.specs.List.Sorted.{IsStrictlyIncreasing};

@@ -9,7 +9,7 @@ ghost use Rattle.label_lines.specs.Lines.{is_number, only_number, numbered, stat
 use crate::faults::LabCause;
 use text_lines::{first_field, split_at_first, whole};
 
-// Gives the number that a line is, if it has no other field.
+// Returns the number that a line is, if it has no other field.
 fn only_whole(line: &[u8]) -> Option<u64>
     ensures { result ≡ option_map saturated (only_number (fields_of line.now)) }
 {
@@ -22,7 +22,7 @@ fn only_whole(line: &[u8]) -> Option<u64>
     whole(field)
 }
 
-// Says whether each field is a number.
+// Returns whether each field is a number.
 fn all_whole(line: &[u8]) -> bool
     ensures { result ≡ list_all is_number (fields_of line.now) }
 {
@@ -36,7 +36,7 @@ fn all_whole(line: &[u8]) -> bool
     true
 }
 
-/// Gives the fault of a line whose numbers have this one. If a field is no number, that fault comes first.
+/// Returns the fault of a line whose numbers have this one. If a field is no number, that fault comes first.
 pub fn fault_of_numbers(numbers: &[u8], cause: LabCause) -> LabCause
     ensures { result ≡ (if list_all is_number (fields_of numbers.now) then cause else LabCause.BadField) }
 {
@@ -47,8 +47,8 @@ pub fn fault_of_numbers(numbers: &[u8], cause: LabCause) -> LabCause
     }
 }
 
-/// Gives the state of a line and the part that has the indices. If there is no state below `states` before a colon, it
-/// gives the first fault of the line.
+/// Returns the state of a line and the part that has the indices. If there is no state below `states` before a colon,
+/// it returns the first fault of the line.
 pub fn read_state(states: u32, line: &[u8]) -> Result<(u32, &[u8]), LabCause>
     ensures line { MatchResult result
         (λ r. state_line line.now ≡ numbered (Some r.0) (fields_of r.1.now))

@@ -1,4 +1,4 @@
--- Labels and owners keep this of the names in their maps.
+-- This module defines what labels and owners keep of the names in their maps.
 use Rattle.std.specs.Prelude.{◌≡◌, ◌<◌, ◌^◌, ℕ, Bool, List, length, Option, unwrap_or, Vec, All}
 use Rattle.std.specs.declared.alloc.Global.{Global}
 

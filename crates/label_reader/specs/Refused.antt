@@ -1,4 +1,4 @@
--- That memory ran out is no refusal of a text.
+-- This module defines how a refusal because memory ran out becomes an end of its own.
 use Rattle.std.specs.Prelude.{◌≡◌, Bool, true, false, Result, Ok, Err}
 use Rattle.game_outside.specs.declared.file.FileEnd.{FileEnd}
 use Rattle.game_outside.specs.declared.file.FileEnd.TheVariants as file

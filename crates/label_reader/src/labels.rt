@@ -54,7 +54,7 @@ impl Labels {
         let _ = &self.sets;
     }
 
-    /// Gives the marks of the label with this name, or none if there is no such label.
+    /// Returns the marks of the label with this name, or none if there is no such label.
     pub fn marks(&self, name: &[u8]) -> &[bool]
         ensures marks { result.now ≡ marks_of self.now.labels name.now }
         ensures short { length result.now < 2 ^ 32 }
@@ -65,14 +65,14 @@ impl Labels {
         }
     }
 
-    /// Says whether there is a label with this name.
+    /// Returns whether there is a label with this name.
     pub fn knows(&self, name: &[u8]) -> bool
         ensures { result ≡ is_known self.now name.now }
     {
         self.names.contains_key(name)
     }
 
-    /// Gives the states at which the label with this name holds, in rising order, or none if there is no such label.
+    /// Returns the states at which the label with this name holds, in rising order, or none if there is no such label.
     pub fn states_of(&self, alloc: Global, name: &[u8]) -> Result<Vec<u32>, OutOfMemory>
         ensures { IfOk result (λ v. v.items ≡ states_with self.now name.now) }
     {
@@ -80,7 +80,7 @@ impl Labels {
     }
 }
 
-// Gives the states that are marked, in rising order.
+// Returns the states that are marked, in rising order.
 fn marked(alloc: Global, marks: &[bool]) -> Result<Vec<u32>, OutOfMemory>
     requires { length marks.now < 2 ^ 32 }
     ensures { IfOk result (λ v. v.items ≡ marked_from 0 marks.now) }

@@ -75,8 +75,8 @@ impl LineReader for OwnerTable {
     }
 }
 
-// Gives the owner of a state behind a line with these indices: the one that is named already, or else the first that
-// the line names. Otherwise it gives the first fault of the indices. That they name another owner comes last.
+// Returns the owner of a state behind a line with these indices: the one that is named already, or else the first that
+// the line names. Otherwise it returns the first fault of the indices. That they name another owner comes last.
 fn owner_behind(
     named: Option<u32>,
     header: &Header,

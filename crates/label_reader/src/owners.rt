@@ -58,14 +58,14 @@ impl Owners {
         }
     }
 
-    /// Says whether there is a player with this name.
+    /// Returns whether there is a player with this name.
     pub fn knows(&self, name: &[u8]) -> bool
         ensures { result ≡ is_player self.now name.now }
     {
         self.names.contains_key(name)
     }
 
-    /// Gives the name of the player who owns a state.
+    /// Returns the name of the player who owns a state.
     pub fn owner(&self, state: u32) -> &[u8]
         requires { state < length self.now.owners }
         ensures { result.now ≡ owner_of self.now state }

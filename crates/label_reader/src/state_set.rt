@@ -34,7 +34,7 @@ impl StateSet {
         self.marks[state as usize] = true;
     }
 
-    /// Gives the marks.
+    /// Returns the marks.
     pub fn marks(&self) -> &[bool]
         ensures { result.now ≡ self.now }
     {

@@ -18,7 +18,7 @@ excess (suc (suc place)) = 1
 abbrev pub last_place : ℕ
 last_place = 2
 
--- An excess has at most so many steps down.
+-- An excess has at most this many steps down.
 abbrev pub most_steps : ℕ
 most_steps = 4
 
@@ -31,16 +31,16 @@ first_raised q marks base e s = if is_goal q s then unit else
 abbrev pub lesser_step : Query → (ℕ → ℕ) → ℕ → ℕ
 lesser_step q table s = min (table s) (down_step q table s)
 
--- The table is the raised one after so many steps down.
+-- The table is the raised one after this many steps down.
 unfoldable pub raised_table : Query → List Bool → (ℕ → ℕ) → ℕ → ℕ → ℕ → ℕ
 raised_table q marks base e zero s = first_raised q marks base e s
 raised_table q marks base e (suc j) s = lesser_step q (raised_table q marks base e j) s
 
--- No choices and ranks make these entries ranked.
+-- No choices and ranks prove a table of these entries.
 abbrev pub IsRefused : Query → (ℕ → ℕ) → Type 0
 IsRefused q entries = (table : List ℕ) → IsTable q entries table → ¬ CanBeRanked q table
 
--- No choices and ranks make any table of one excess ranked.
+-- No choices and ranks prove any table of one excess.
 abbrev pub AreRefused : Query → List Bool → (ℕ → ℕ) → ℕ → Type 0
 AreRefused q marks base e = (j : ℕ) → j ≤ most_steps → IsRefused q (raised_table q marks base e j)
 
@@ -59,7 +59,7 @@ pub record IsFirstGuess (q : Query) (marks : List Bool) (base : ℕ → ℕ) (ta
   pub here : IsFirstAt q marks base (excess place) table
   pub earlier : (i : ℕ) → i < place → AreRefused q marks base (excess i)
 
--- The first guess is found, with the plan that makes it ranked.
+-- The first guess is found, with the plan that proves it.
 pub record IsRaised (q : Query) (marks : List Bool) (base : List ℕ) (values : List ℕ) (choices : List (Option ℕ))
     (ranks : List ℕ) : Type 0 where
   pub first : IsFirstGuess q marks (slice_index base) values

@@ -1,4 +1,4 @@
-//! A table has a lower guess.
+//! This module makes the lower guess of a table.
 
 ghost use Rattle.std.specs.Prelude.{◌≡◌, length, slice_index, IfOk};
 ghost use Rattle.game_model.specs.Query.{states};
@@ -18,7 +18,7 @@ use rank_certificate::laws::ranked_is_near;
 use rank_certificate::{RankPlan, find_ranks_over};
 use std::alloc::Global;
 
-/// This is a lower table in units, with the plan that makes it ranked.
+/// This is a lower table in units, with the plan that proves it.
 #[derive(Drop)]
 pub struct LowerGuess {
     /// Each state has a lower bound.
@@ -30,8 +30,8 @@ pub struct LowerGuess {
 /// The last excess has this place.
 pub const LAST_PLACE: u32 = 2;
 
-/// Gives the lower guess of a table of values in units, which these choices and some ranks have to prove. The guess is
-/// the first of 15 tables that any choices and ranks prove, with the plan of [`rank_certificate::rank_table`]. There
+/// Returns the lower guess of a table of values in units, which these choices and some ranks have to prove. The guess
+/// is the first of 15 tables that any choices and ranks prove, with the plan of [`rank_certificate::rank_table`]. There
 /// are five tables for each excess: 4, 2 and then 1 units. The first one has the unit at goals and 0 on the zero set.
 /// Elsewhere it has the entry and the excess, but at most the unit. Each of the next four is the lesser of the one
 /// before and of its down step. If no table can be ranked, the guess is the given one, with these choices and the ranks
@@ -63,8 +63,8 @@ pub fn lower_guess<'a>(
     lower_guess_over(alloc, question, zero, base, choices, &predecessors)
 }
 
-/// Gives the guess of [`lower_guess`] for a caller that has the lists of predecessors of the question's game. The only
-/// error is that memory ran out.
+/// Returns the guess of [`lower_guess`] for a caller that has the lists of predecessors of the question's game. The
+/// only error is that memory ran out.
 pub fn lower_guess_over<'a>(
     alloc: Global,
     question: &'a Question<'a>,
@@ -115,7 +115,7 @@ pub fn lower_guess_over<'a>(
     })
 }
 
-/// Gives the excess at a place: 4, 2 and 1 units.
+/// Returns the excess at a place: 4, 2 and 1 units.
 fn excess_at(place: u32) -> u64
     ensures { result ≡ excess place }
 {

@@ -1,4 +1,4 @@
-//! Each excess has raised tables.
+//! This module makes the raised tables of one excess.
 
 ghost use Rattle.std.specs.Prelude.{◌≡◌, ℕ, ◌<◌, ◌≤◌, length, slice_index, All, IfOk};
 ghost use Rattle.game_model.specs.Query.{IsQuery, states};
@@ -13,7 +13,7 @@ use predecessors::Predecessors;
 use rank_certificate::rank_standing;
 use std::alloc::Global;
 
-/// An excess has at most so many steps down.
+/// An excess has at most this many steps down.
 pub const MOST_STEPS: u32 = 4;
 
 /// The tables of one excess are made from a question, its zero set, a lower table and the excess, and for each state
@@ -40,7 +40,7 @@ impl Guesses<'_> {
     ghost use Rattle.lower_guess.specs.LowerGuess.{most_steps};
     ghost use Rattle.lower_guess.specs.inside.OfGuesses.{first_entry_of, IsTableOf, IsRefusedOf, AreRefusedOf, IsFirstOf};
 
-    /// Gives the first of the tables of this excess that can be ranked, with its plan, or none if each is refused. It
+    /// Returns the first of the tables of this excess that can be ranked, with its plan, or none if each is refused. It
     /// makes no table if the last one is seen to fall.
     pub fn first_ranked(&self, alloc: Global) -> Result<Option<LowerGuess>, OutOfMemory>
         ensures found { IfOk result (λ found. MatchOption found (AreRefusedOf self.now)
@@ -57,7 +57,7 @@ impl Guesses<'_> {
         }
     }
 
-    /// Gives the same by making the tables in turn. If a state falls, the table is refused. If no state falls, all
+    /// Returns the same by making the tables in turn. If a state falls, the table is refused. If no state falls, all
     /// later tables are the same, and the search for ranks decides. After the first step only predecessors of states
     /// that fell are looked at.
     fn first_made(&self, alloc: Global) -> Result<Option<LowerGuess>, OutOfMemory>
@@ -90,8 +90,8 @@ impl Guesses<'_> {
         Ok(None)
     }
 
-    /// Gives a table after so many steps down, in which no state falls, with its plan. It gives none if the table is
-    /// refused, since then each later one is refused.
+    /// Returns a table after this many steps down, in which no state falls, with its plan. It returns none if the table
+    /// is refused, since then each later one is refused.
     fn rank(
         &self,
         alloc: Global,
@@ -131,7 +131,7 @@ impl Guesses<'_> {
         Ok(table)
     }
 
-    /// Gives the entry of that table at a state.
+    /// Returns the entry of that table at a state.
     pub fn first_entry(&self, state: u32) -> u64
         requires { state < states self.now.question.now }
         ensures value { result ≡ first_entry_of self.now state }

@@ -14,7 +14,7 @@ use game_outside::OutOfMemory;
 use predecessors::{Predecessors, mark_predecessors};
 use std::alloc::Global;
 
-/// Gives the lesser of a table and of its down step, at each state.
+/// Returns the lesser of a table and of its down step, at each state.
 pub fn lesser_table(
     alloc: Global,
     question: &Question,
@@ -35,7 +35,7 @@ pub fn lesser_table(
     Ok(next)
 }
 
-/// Gives the lesser of the two at a state.
+/// Returns the lesser of the two at a state.
 fn lesser_entry(question: &Question, table: &[u64], marks: &[bool], state: u32) -> u64
     requires state { state < states question.now }
     requires length { length table.now ≡ states question.now }
@@ -52,7 +52,7 @@ fn lesser_entry(question: &Question, table: &[u64], marks: &[bool], state: u32) 
     down_state(question, state, table).0
 }
 
-/// Says whether two tables have the same entries.
+/// Returns whether two tables have the same entries.
 pub fn is_same(one: &[u64], other: &[u64]) -> bool
     requires { length one.now ≡ length other.now }
     ensures { IsTrue result ↔ ((s : ℕ) → s < length one.now → slice_index one.now s ≡ slice_index other.now s) }

@@ -11,16 +11,16 @@ use crate::guesses::{Guesses, MOST_STEPS};
 use fixed_bellman::Quotient;
 use game_model::{Side, UNIT};
 
-/// So many states, evenly spread, are checked for a fall of the last table.
+/// This many states, evenly spread, are checked for a fall of the last table.
 const MOST_TRIES: u32 = 256;
 
-/// All these checks together look into at most one state for so many states of the question, since a table would cost
+/// All these checks together look into at most one state for this many states of the question, since a table would cost
 /// more.
 const STATES_FOR_A_LOOK: u32 = 4;
 
 impl Guesses<'_> {
-    /// Says whether the last table of the excess is seen to fall at one of some states. Then each table of the excess
-    /// falls, and is refused.
+    /// Returns whether the last table of the excess is seen to fall at one of some states. Then each table of the
+    /// excess falls, and is refused.
     pub fn falls_to_the_last(&self) -> bool
         ensures { IsTrue result → AreRefusedOf self.now }
     {
@@ -38,7 +38,7 @@ impl Guesses<'_> {
         false
     }
 
-    /// Says whether the last table is seen to fall at this state, if the budget suffices.
+    /// Returns whether the last table is seen to fall at this state, if the budget suffices.
     fn falls_at(&self, state: u32, budget: &mut u32) -> bool
         requires { state < states self.now.question.now }
         ensures { IsTrue result → AreRefusedOf self.now }
@@ -52,7 +52,7 @@ impl Guesses<'_> {
         step < entry
     }
 
-    /// Gives the entry at a state after so many steps down, if the budget suffices.
+    /// Returns the entry at a state after this many steps down, if the budget suffices.
     #[cycle(local)]
     fn entry(&self, steps: u32, state: u32, budget: &mut u32) -> Option<u64>
         requires { state < states self.now.question.now }
@@ -69,7 +69,7 @@ impl Guesses<'_> {
         Some(entry.min(step))
     }
 
-    /// Gives the down step of that table at the state.
+    /// Returns the down step of that table at the state.
     #[cycle(local)]
     fn step(&self, steps: u32, state: u32, budget: &mut u32) -> Option<u64>
         requires { state < states self.now.question.now }
@@ -88,7 +88,7 @@ impl Guesses<'_> {
         self.best(steps, state, budget)
     }
 
-    /// Gives the down value of the best choice of a state.
+    /// Returns the down value of the best choice of a state.
     #[cycle(local)]
     fn best(&self, steps: u32, state: u32, budget: &mut u32) -> Option<u64>
         requires { state < states self.now.question.now }
@@ -103,7 +103,7 @@ impl Guesses<'_> {
         Some(best)
     }
 
-    /// Gives the down value of a choice.
+    /// Returns the down value of a choice.
     #[cycle(local)]
     fn value(&self, steps: u32, state: u32, choice: u32, budget: &mut u32) -> Option<u64>
         requires state { state < states self.now.question.now }
@@ -115,7 +115,7 @@ impl Guesses<'_> {
         Some(Quotient::new(sum, total).down())
     }
 
-    /// Gives the sum of weight times entry of the successor.
+    /// Returns the sum of weight times entry of the successor.
     #[cycle(local)]
     fn sum(&self, steps: u32, state: u32, choice: u32, budget: &mut u32) -> Option<u128>
         requires state { state < states self.now.question.now }
@@ -133,7 +133,7 @@ impl Guesses<'_> {
     }
 }
 
-/// Gives the better of two values for a side.
+/// Returns the better of two values for a side.
 fn better(side: Side, one: u64, other: u64) -> u64
     ensures { result ≡ better side one other }
 {

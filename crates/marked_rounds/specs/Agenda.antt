@@ -40,7 +40,7 @@ pub record IsStateRead (s : ℕ) (old new : Agenda) (before after : ℕ → ℕ)
   pub marked : IsMarked old.more.items s → before s ≤ read_of new s
   pub same : slice_index_or new.more.items s false ≡ false → read_of new s ≡ read_of old s
 
--- Nothing else changed.
+-- The values and the second marks of all other states are unchanged.
 pub record IsElsewhere (s : ℕ) (old new : Agenda) : Type 0 where
   pub read : (t : ℕ) → t ≢ s → read_of new t ≡ read_of old t
   pub more : (t : ℕ) → t ≢ s → slice_index_or new.more.items t false ≡ slice_index_or old.more.items t false

@@ -56,8 +56,8 @@ impl Agenda {
     }
 }
 
-/// Gives the first place from one on that has a mark, or the number of marks if there is none. If the place itself has
-/// one, no stretch is looked at.
+/// Returns the first place from one on that has a mark, or the number of marks if there is none. If the place itself
+/// has one, no stretch is looked at.
 fn mark_from(marks: &[bool], from: u32) -> u32
     requires few { length marks.now ≤ most_states }
     requires from { from ≤ length marks.now }

@@ -90,7 +90,7 @@ pub fn one_round<'q, R: Threads + Sync, P: Posing + Send + Sync, G: Gate + Sync>
     (runner, changed > 0)
 }
 
-/// Gives the closed words: those of a race of as many rounds. They are settled if what was read is.
+/// Returns the closed words: those of a race of as many rounds. They are settled if what was read is.
 pub fn close<P: Posing>(alloc: Global, runner: Runner<'_, P>) -> Result<Words, OutOfMemory>
     ensures { (r : ℕ) → IsRacing P.posed r runner.entry.pass runner.entry.agenda
         → IfOk result (λ words. IsClosed P.posed words r (read_of runner.entry.agenda)) }
@@ -149,7 +149,7 @@ fn sweep<R: Threads + Sync, P: Posing + Send + Sync, G: Gate + Sync>(
     (pass, changed)
 }
 
-/// Says how many workers a round after the first has: one, and one more for each `EDGES_FOR_A_WORKER` edges of the
+/// Returns how many workers a round after the first has: one, and one more for each `EDGES_FOR_A_WORKER` edges of the
 /// states that are updated. About as many states are updated as edges lead to a changed state, and they have about as
 /// many edges as others.
 pub fn busy_workers(question: &Question<'_>, workers: u32, changed: u32) -> u32

@@ -1,4 +1,4 @@
--- This file defines the answer to a formula with formulas inside.
+-- This module defines the answer to a formula with formulas inside.
 use Rattle.std.specs.Prelude.{◌≡◌, ◌<◌, ◌+◌, ℕ, List, All}
 use Rattle.game_model.specs.Game.{IsGame}
 use Rattle.formula_reader.specs.Formula.{Tree, formulas_inside}
@@ -56,5 +56,5 @@ pub record IsNested (m : Model) (f : Tree) (starts : List ℕ) (way : Way) (band
   -- If nothing inside is left undecided, the bounds are those of one answer to the exact question.
   pub exact : undecided ≡ 0 → AreFoundBy f.kind m f (exactly (holds m.labels truth f.left))
       (exactly (holds m.labels truth f.right)) starts way band how
-  -- A number of rounds promises this besides.
+  -- If rounds are made, this is promised as well.
   pub rounds : (asked : ℕ) → way ≡ ByRounds asked → RoundsPromise m f starts asked left right truth band undecided

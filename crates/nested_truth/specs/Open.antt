@@ -1,4 +1,4 @@
--- This file says when the threshold of a formula whose sides are known is left open.
+-- This module says when the threshold of a formula whose sides are known is left open.
 use Rattle.std.specs.Prelude.{◌^◌, ℕ, Bool, List, slice_index}
 use Rattle.game_model.specs.Query.{Query}
 use Rattle.game_model.specs.Values.{denominator, numerator}

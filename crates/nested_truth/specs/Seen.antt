@@ -1,4 +1,4 @@
--- This file says what contracts see of the values of the code.
+-- This module says what contracts see of the values of the code.
 use Rattle.std.specs.Prelude.{◌≡◌, ◌<◌, ◌≤◌, ℕ, false, length, slice_index_or, All, Option, Some, None}
 use Rattle.game_model.specs.Limits.{unit}
 use Rattle.game_model.specs.Query.{Query}

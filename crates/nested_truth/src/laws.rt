@@ -11,7 +11,7 @@ ghost use Rattle.formula_truth.specs.Bands.{Bands, surely, possibly, undecided_i
 ghost use Rattle.formula_truth.specs.Runs.{AreFound};
 
 /// If no pair of a state and a formula inside a state formula is undecided, the bounds of the formulas inside say what
-/// is true: the state formula surely holds exactly where it holds in the truth, and possibly holds exactly there.
+/// is true. The state formula surely holds exactly where it holds in the truth, and it possibly holds exactly there.
 pub fn what_is_decided_is_the_truth()
     ensures sure { (m : Model) (truth : Valuation) (way : Way) (x : State) (found : Bands x) → IsGame m.game
         → IsTruth m truth → HasParts x → AreFound m way x found → undecided_in x found (states m) ≡ 0

@@ -1,4 +1,4 @@
--- This file says what a solver hands out as a table.
+-- This module says what a solver hands out as a table.
 use Rattle.std.specs.Prelude.{ℕ, List, [], All, ◌≡◌, ◌≤◌, ◌⊎◌, length}
 use Rattle.game_model.specs.Limits.{unit}
 

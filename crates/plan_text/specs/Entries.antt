@@ -1,4 +1,4 @@
--- A certificate has an entry for each state.
+-- This module defines the entries of a certificate, one for each state.
 use Rattle.std.specs.Prelude.{◌≡◌, ℕ, ◌≤◌, List, length, map, slice_index, slice_index_or, Option, Some, None}
 use Rattle.std.specs.List.{range_with_len}
 use Rattle.game_model.specs.Limits.{unit}

@@ -11,6 +11,6 @@ last_digits (suc k) n = last_digits k (n / 10) ++ (48 + n % 10) ∷ []
 abbrev pub unit_digits : ℕ
 unit_digits = 15
 
--- The text is a value of so many units, in decimal.
+-- The text is a value of this many units, in decimal.
 abbrev pub fixed : ℕ → List ℕ
 fixed units = (48 + units / unit) ∷ 46 ∷ last_digits unit_digits (units % unit)

@@ -1,4 +1,4 @@
--- The laws of certificates use these definitions.
+-- This module defines the terms of the laws of certificates.
 use Rattle.std.specs.Prelude.{◌≡◌, ℕ, List, [], ◌∷◌, ◌++◌, false}
 use Rattle.text_lines.specs.Text.{fields_of}
 use Rattle.text_lines.specs.Laws.{HasNo, EndsInNoCr}

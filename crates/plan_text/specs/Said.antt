@@ -1,4 +1,4 @@
--- The text of a certificate for so many states says an entry for each state, or has a first fault.
+-- The text of a certificate for this many states says an entry for each state, or has a first fault.
 use Rattle.std.specs.Prelude.{◌≡◌, ℕ, ◌+◌, ◌-◌, ◌*◌, ◌==◌, ◌&&◌, nat_le, bytes_eq, Bool, true, false, List, [], ◌∷◌}
 use Rattle.std.specs.Prelude.{◌++◌, length, Option, Some, None, option_map, codes, if◌then◌else◌, Result, Ok, Err}
 use Rattle.game_model.specs.Limits.{unit}
@@ -115,7 +115,7 @@ certificate_from states number (line ∷ lines) =
     (λ version. entries_from version states [] (number + 1) lines)
     else certificate_from states (number + 1) lines
 
--- The text gives the entries for so many states, or its first fault.
+-- The text gives the entries for this many states, or its first fault.
 abbrev pub entries_said : List ℕ → ℕ → Result (List Entry) PlanFault
 entries_said text states = certificate_from states 1 (significant (lines_of text))
 

@@ -3,12 +3,12 @@ use Rattle.std.specs.Prelude.{ℕ, bytes_eq, List, Option, Some, None, codes, if
 use Rattle.plan_text.specs.declared.version.Version.{Version}
 use Rattle.plan_text.specs.declared.version.Version.TheVariants.{One, Two}
 
--- A value has so many digits after its point.
+-- A value has this many digits after its point.
 abbrev pub decimals_of : Version → ℕ
 decimals_of One = 12
 decimals_of Two = 15
 
--- The last of these digits counts so many units.
+-- The last of these digits counts this many units.
 abbrev pub units_of_last_digit : Version → ℕ
 units_of_last_digit One = 1000
 units_of_last_digit Two = 1

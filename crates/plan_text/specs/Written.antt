@@ -1,4 +1,4 @@
--- A certificate is written as text.
+-- This module defines the text that is written for a certificate.
 use Rattle.std.specs.Prelude.{ℕ, ◌+◌, List, [], ◌∷◌, ◌++◌, length, Option, Some, None, codes, decimal}
 use Rattle.plan_text.specs.Fixed.{fixed}
 use Rattle.plan_text.specs.Entries.{Entry}

@@ -46,7 +46,7 @@ impl Model for StateLine {
 }
 
 impl StateLine {
-    // Gives what a line spells of this state, if it has the right form.
+    // Returns what a line spells of this state, if it has the right form.
     fn spelled(version: Version, state: u32, line: &[u8]) -> Option<StateLine>
         ensures { result ≡ option_map saturated_entry (entry_in version state (fields_of line.now)) }
     {
@@ -68,7 +68,7 @@ impl StateLine {
         })
     }
 
-    // Says whether the bounds are values, and the choices and the rank are within their limits.
+    // Returns whether the bounds are values, and the choices and the rank are within their limits.
     fn is_in_range(&self) -> bool
         ensures { result ≡ is_in_range self.now }
     {
@@ -79,7 +79,7 @@ impl StateLine {
             && self.rank <= u64::from(u32::MAX)
     }
 
-    /// Gives what a line says of this state, or its fault.
+    /// Returns what a line says of this state, or its fault.
     pub fn read(version: Version, state: u32, line: &[u8]) -> Result<StateLine, PlanCause>
         ensures said { result ≡ line_said version state line.now }
         ensures range { IfOk result IsInRange }
@@ -95,7 +95,7 @@ impl StateLine {
     }
 }
 
-// Gives the units of a value: a digit, a point and the decimals of the version.
+// Returns the units of a value: a digit, a point and the decimals of the version.
 fn units_in(version: Version, field: &[u8]) -> Option<u64>
     ensures { result ≡ units_of version field.now }
 {

@@ -1,4 +1,4 @@
-//! A certificate may be refused for these reasons.
+//! This module has the reasons for which the text of a certificate is refused.
 
 /// The text of a certificate is refused for one of these causes.
 #[derive(Clone, Copy, Debug, PartialEq, Eq)]

@@ -1,4 +1,4 @@
-//! A value is written as text.
+//! This module writes a value as text.
 
 ghost use Rattle.std.specs.Prelude.{◌≡◌, ◌≤◌, ◌∷◌, ◌++◌, IfOk, OnOk};
 ghost use Rattle.game_model.specs.Limits.{unit};
@@ -12,7 +12,7 @@ use std::alloc::Global;
 /// The unit is ten to this power.
 pub(crate) const UNIT_DIGITS: usize = 15;
 
-/// Writes a value of so many units in decimal: one digit, a point and fifteen digits.
+/// Writes a value of this many units in decimal: one digit, a point and fifteen digits.
 pub fn fixed_text(alloc: Global, units: u64) -> Result<Vec<u8>, OutOfMemory>
     requires { units ≤ unit }
     ensures { IfOk result (λ text. text.items ≡ fixed units) }
@@ -22,7 +22,7 @@ pub fn fixed_text(alloc: Global, units: u64) -> Result<Vec<u8>, OutOfMemory>
     Ok(text)
 }
 
-/// Appends a value of so many units in decimal.
+/// Appends a value of this many units in decimal.
 pub fn append_fixed(text: &mut Vec<u8>, units: u64) -> Result<(), OutOfMemory>
     requires { units ≤ unit }
     ensures { OnOk result (text.new.items ≡ text.old.items ++ fixed units) }
@@ -32,7 +32,7 @@ pub fn append_fixed(text: &mut Vec<u8>, units: u64) -> Result<(), OutOfMemory>
     append(text, &last_digits_of(units % UNIT))
 }
 
-// Gives the last fifteen digits of a number.
+// Returns the last fifteen digits of a number.
 fn last_digits_of(number: u64) -> [u8; UNIT_DIGITS]
     ensures { result ≡ last_digits unit_digits number }
 {

@@ -9,8 +9,8 @@ use crate::fault::{PlanCause, PlanFault};
 use crate::version::Version;
 use text_lines::{first_field, first_line, whole};
 
-/// Gives the version of the certificate, the text after its first line, and the number of the next line, or gives the
-/// first fault.
+/// Returns the version of the certificate, the text after its first line, and the number of the next line, or the first
+/// fault.
 pub fn read_heading(text: &[u8], states: u32) -> Result<(Version, &[u8], u32), PlanFault>
     requires { length text.now ≤ most_bytes }
     ensures said { MatchResult result
@@ -40,7 +40,7 @@ pub fn read_heading(text: &[u8], states: u32) -> Result<(Version, &[u8], u32), P
     })
 }
 
-// Says whether the first field of a line is `certificate`.
+// Returns whether the first field of a line is `certificate`.
 fn is_heading(line: &[u8]) -> bool
     ensures { result ≡ is_heading (fields_of line.now) }
 {
@@ -50,7 +50,7 @@ fn is_heading(line: &[u8]) -> bool
     }
 }
 
-// Gives the version and the number of states of a line that has nothing after them.
+// Returns the version and the number of states of a line that has nothing after them.
 fn last_fields(line: &[u8]) -> Option<(&[u8], &[u8])>
     ensures { MatchOption result
         ((n : ℕ) → header_said n (fields_of line.now) ≡ Err PlanCause.BadLine)
@@ -65,7 +65,7 @@ fn last_fields(line: &[u8]) -> Option<(&[u8], &[u8])>
     }
 }
 
-// Gives the version of a certificate of so many states, by its first line, or the fault of the line.
+// Returns the version of a certificate of this many states, by its first line, or the fault of the line.
 fn check_heading(states: u32, line: &[u8]) -> Result<Version, PlanCause>
     ensures { result ≡ header_said states (fields_of line.now) }
 {

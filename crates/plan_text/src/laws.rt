@@ -1,4 +1,4 @@
-//! These are laws of certificates. Each function does nothing; its contract is the law.
+//! This module has the laws of certificates. Each function does nothing: its contract is the law.
 
 ghost use Rattle.std.specs.Prelude.{◌≡◌, ◌≤◌, ◌^◌, ◌++◌, ◌↔◌, List, ℕ, All, Ok, Some, codes, length};
 ghost use Rattle.game_model.specs.Limits.{unit, most_states};
@@ -44,7 +44,7 @@ pub fn certificates_have_one_reading()
         → certificate_text entries ≡ certificate_text others → entries ≡ others }
 {}
 
-/// The entries that are read for so many states are those of a certificate in the text, and those of each certificate
+/// The entries that are read for this many states are those of a certificate in the text, and those of each certificate
 /// in the text are read.
 pub fn certificates_are_what_is_read()
     ensures { (text : List ℕ) (states : ℕ) (entries : List Entry)

@@ -24,7 +24,7 @@ pub struct Plan {
 impl Plan {
     ghost use Rattle.plan_text.specs.Entries.{HasStates, IsInRange, entries_of};
 
-    /// Makes a certificate of no state, with room for so many.
+    /// Makes a certificate of no state, with room for this many.
     pub(crate) fn with_room(alloc: Global, states: u32) -> Result<Plan, AllocError>
         ensures { IfOk result (λ plan. HasStates plan 0) }
     {

@@ -1,4 +1,4 @@
-//! A certificate is read from text.
+//! This module reads a certificate from text.
 
 ghost use Rattle.std.specs.Prelude.{◌≡◌, ◌≤◌, ◌<◌, ◌+◌, ◌&&◌, [], Ok, Err, All, IfOk, MatchResult, length, if◌then◌else◌};
 ghost use Rattle.text_lines.specs.Limits.{most_bytes};
@@ -16,9 +16,9 @@ use crate::version::Version;
 use std::alloc::Global;
 use text_lines::{first_field, first_line, only_blank};
 
-/// Reads the certificate of so many states from a text. It passes over the lines before the first one whose first field
-/// is `certificate`. A value of the first version is as many units as its decimals say. It gives what the text says, or
-/// the first fault of the text, line by line, unless memory runs out.
+/// Reads the certificate of this many states from a text. It passes over the lines before the first one whose first
+/// field is `certificate`. A value of the first version is as many units as its decimals say. It returns what the text
+/// says, or the first fault of the text, line by line, unless memory runs out.
 pub fn read_plan(alloc: Global, bytes: &[u8], states: u32) -> Result<Plan, PlanFault>
     requires { length bytes.now ≤ most_bytes }
     ensures lists { IfOk result (λ plan. HasStates plan states) }
@@ -59,7 +59,7 @@ fn read_states(
     Ok(plan)
 }
 
-// Gives what the first line says of this state and the text after the line, or its fault.
+// Returns what the first line says of this state and the text after the line, or its fault.
 fn read_state(
     version: Version,
     state: u32,

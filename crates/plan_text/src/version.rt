@@ -1,4 +1,4 @@
-//! There are two versions of certificates.
+//! This module has the two versions of certificates.
 
 ghost use Rattle.std.specs.Prelude.{◌≡◌};
 ghost use Rattle.plan_text.specs.Versions.{decimals_of, units_of_last_digit, version_in};
@@ -15,7 +15,7 @@ pub enum Version {
 }
 
 impl Version {
-    /// Gives the version that a field names.
+    /// Returns the version that a field names.
     pub fn named(field: &[u8]) -> Option<Version>
         ensures { result ≡ version_in field.now }
     {
@@ -28,7 +28,7 @@ impl Version {
         }
     }
 
-    /// A value has so many digits after its point.
+    /// A value has this many digits after its point.
     pub fn decimals(self) -> usize
         ensures { result ≡ decimals_of self }
     {
@@ -38,7 +38,7 @@ impl Version {
         }
     }
 
-    /// The last of these digits counts so many units.
+    /// The last of these digits counts this many units.
     pub fn units_of_last_digit(self) -> u64
         ensures { result ≡ units_of_last_digit self }
     {

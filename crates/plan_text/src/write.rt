@@ -1,4 +1,4 @@
-//! A certificate is written as text.
+//! This module writes a certificate as text.
 
 ghost use Rattle.std.specs.Prelude.{◌≡◌, ◌≤◌, ◌<◌, ◌++◌, All, IfOk, OnOk, codes, decimal, length};
 ghost use Rattle.game_model.specs.Limits.{unit};
@@ -12,7 +12,7 @@ use crate::plan::Plan;
 use game_outside::OutOfMemory;
 use std::alloc::Global;
 
-/// Gives the text of a certificate. The first line is `certificate 2 N`. Then each of the N states has a line, by
+/// Returns the text of a certificate. The first line is `certificate 2 N`. Then each of the N states has a line, by
 /// rising number: the state, the lower bound, the maximiser's choice, the rank, the upper bound and the minimiser's
 /// choice, with one space between them. The only error is that memory ran out.
 pub fn write_plan(alloc: Global, plan: &Plan) -> Result<Vec<u8>, OutOfMemory>

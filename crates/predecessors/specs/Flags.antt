@@ -1,4 +1,4 @@
--- Each choice of a game has a flag.
+-- This module defines the flags of choices, one for each choice of a game.
 use Rattle.std.specs.Prelude.{◌≡◌, ℕ, ◌+◌, ◌<◌, ◌↔◌, Bool, true, false, List, length, slice_index_or}
 use Rattle.game_model.specs.Game.{Distribution, choices_of, choices_below}
 

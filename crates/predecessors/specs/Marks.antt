@@ -1,4 +1,4 @@
--- States can have marks.
+-- This module defines when a state has a mark.
 use Rattle.std.specs.Prelude.{◌≡◌, ℕ, Bool, true, false, List, slice_index_or}
 
 -- The state has a mark.

@@ -42,7 +42,7 @@ impl ChoiceFlags {
         Ok(ChoiceFlags { flags })
     }
 
-    /// Gives the flag of a choice. There must be as many flags as the game has choices.
+    /// Returns the flag of a choice. There must be as many flags as the game has choices.
     pub fn has(&self, game: &Game, state: u32, choice: u32) -> bool
         requires state { state < length game.now }
         requires choice { choice < length (choices_of game.now state) }
@@ -71,7 +71,7 @@ fn push_state<F: Fn(u32, u32) -> bool>(
     Ok(())
 }
 
-// Gives the number of a choice among all choices of the game.
+// Returns the number of a choice among all choices of the game.
 fn number_of(game: &Game, state: u32, choice: u32) -> usize
     requires state { state < length game.now }
     requires choice { choice < length (choices_of game.now state) }

@@ -16,7 +16,8 @@ use Rattle.run_refusals.specs.Refusals.{numbered}
 abbrev pub sum_of : List ℕ → ℕ
 sum_of table = sum_by (λ v. v) table
 
--- The line ends with the sums of both tables if they are settled, else with the word `unsettled`.
+-- The line ends with the sums of the lower and the upper table if the run is settled, and else with the word
+-- `unsettled`.
 abbrev pub ending : Bool → List ℕ → List ℕ → List ℕ
 ending stable lower upper = if stable then numbered (codes " lower ") (sum_of lower)
     ++ (numbered (codes " upper ") (sum_of upper) ++ codes " settled\n") else codes " unsettled\n"
@@ -27,11 +28,11 @@ summary_text seed states zeros stable lower upper =
     numbered (codes "model seed ") seed ++ (numbered (codes " states ") states
     ++ (numbered (codes " zero ") zeros ++ ending stable lower upper))
 
--- All is well if both tables are settled.
+-- The status is `Fine` if the run is settled, and else `SomeUndecided`.
 abbrev pub status_made : Bool → Status
 status_made stable = if stable then Fine else SomeUndecided
 
--- This is the question about the game of so many states that a seed draws.
+-- This is the question about the game of this many states that a seed draws.
 abbrev pub drawn_question : ℕ → ℕ → Query
 drawn_question seed states = question_of (drawn_game seed states)
 

@@ -28,7 +28,7 @@ pub record IsNestedReport (m : Model) (initial : List ℕ) (f : Tree) (way : Way
   pub inside : All (λ s. s < length m.game) initial
   pub band : Band
   pub how : How
-  -- So many formulas are inside, and so many pairs of one of them and a state are left undecided.
+  -- This many formulas are inside, and this many pairs of one of them and a state are left undecided.
   pub inner : ℕ
   pub undecided : ℕ
   pub nested : IsNested m f initial way band how inner undecided

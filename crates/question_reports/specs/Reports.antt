@@ -73,8 +73,8 @@ pub record IsBracketReport (q : Query) (initial : List ℕ) (f : Tree) (check : 
   pub passes : Passes q plan
   pub written : text ≡ output_text (output_of check.plan f (Rounds found.rounds) initial plan)
   pub limits : IsInLimits (output_of check.plan f (Rounds found.rounds) initial plan)
-  -- Undecided is said only if no bracket that the asked rounds promise settles the threshold; for `G` this is the
-  -- threshold of the dual.
+  -- Undecided is said only if the threshold is left open by the printed bounds, by the down steps of the asked rounds,
+  -- and by the values of as many steps. For `G` this is the threshold of the dual.
   pub left_open : All (λ line. line.verdict ≡ Undecided
       → IsLeftOpen q zero (answered f).bound check.rounds (slice_index plan.lower.items)
       (slice_index plan.upper.items) line.state) (output_of check.plan f (Rounds found.rounds) initial plan).lines

@@ -1,4 +1,4 @@
--- These definitions give the answer to a problem with a bound on the steps: exactly so many are made.
+-- These definitions give the answer to a problem with a bound on the steps: exactly that many are made.
 use Rattle.std.specs.Prelude.{◌≡◌, ◌<◌, ◌≤◌, ◌==◌, ◌*◌, ◌^◌, ℕ, Bool, false, List, length, map, slice_index, All}
 use Rattle.game_model.specs.Limits.{unit}
 use Rattle.game_model.specs.Query.{Query, states}
@@ -15,7 +15,7 @@ use Rattle.verdicts.specs.declared.report.How.TheVariants.{Steps}
 use Rattle.run_answers.specs.Printed.{line_of, status_of}
 use Rattle.run_answers.specs.declared.status.Status.{Status}
 
--- The text and the status are the answer for the values of so many steps from an opening table. The values are these
+-- The text and the status are the answer for the values of this many steps from an opening table. The values are these
 -- numerators over that power of the denominator, and the bounds are the rounded steps of the table.
 pub record IsSweepReport (q : Query) (opening : ℕ → ℕ) (steps : ℕ) (numerators : ℕ → ℕ) (initial : List ℕ) (f : Tree)
     (text : List ℕ) (status : Status) : Type 0 where
@@ -33,7 +33,7 @@ pub record IsSweepReport (q : Query) (opening : ℕ → ℕ) (steps : ℕ) (nume
   pub right : All (λ s. IsRight f.bound (numerators s) (denominator q.game ^ steps)
       (line_of false f.bound (Steps steps) lower upper s).verdict) initial
 
--- For `F<=k` and `U<=k` the report is of the values within so many steps, which are what both sides can be sure of by
+-- For `F<=k` and `U<=k` the report is of the values within this many steps, which are what both sides can be sure of by
 -- strategies with memory and dice.
 pub record IsWithinReport (q : Query) (steps : ℕ) (initial : List ℕ) (f : Tree) (text : List ℕ)
     (status : Status) : Type 0 where

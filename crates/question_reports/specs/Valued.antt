@@ -33,7 +33,7 @@ pub record KeepsAway (q : Query) (plan : Plan) : Type 0 where
 pub record IsTold (q : Query) (initial : List ℕ) (f : Tree) (plan : Plan) (lines : List ReportLine)
     (status : Status) : Type 0 where
   pub inside : All (λ s. s < states q) initial
-  -- The minimiser's choices hold every strategy of the maximiser to the upper bounds. The maximiser's choices reach the
+  -- The minimiser's replies hold every strategy of the maximiser to the upper bounds. The maximiser's choices reach the
   -- lower bounds, less any 1/m, against every strategy of the minimiser.
   pub sound : IsSoundPlan q plan
   pub keeps_away : is_mirrored f.kind ≡ true → KeepsAway q plan

@@ -1,7 +1,8 @@
 //! This module makes what `make` says of a game that a seed draws.
 //!
 //! [`drawn_report`] writes one line on the bracket of its question: the number of states of value 0, and the sums of
-//! both tables if they are settled. A law in `laws.rt` says that the line of settled tables is the same on every run.
+//! the lower and the upper table if the run is settled. A law in `laws.rt` says that two settled runs of the same game
+//! have the same line.
 
 ghost use Rattle.std.specs.Prelude.{◌≡◌, ◌<◌, ◌^◌, IfOk, count_by};
 ghost use Rattle.std.specs.String.{string_bytes};
@@ -75,7 +76,7 @@ fn write_summary(
     })
 }
 
-// Writes the sums of both tables if they are settled.
+// Writes the sums of the lower and the upper table if the run is settled.
 fn ending(alloc: Global, found: &Bracket) -> Result<String, AllocError>
     requires fits { (sum_of found.now.lower.items < 2 ^ 128) × (sum_of found.now.upper.items < 2 ^ 128) }
     ensures { IfOk result (λ end. string_bytes end ≡ ending found.now.stable found.now.lower.items
@@ -98,7 +99,7 @@ fn sum_of(table: &[u64]) -> u128
     table.iter().map(|entry| u128::from(*entry)).sum()
 }
 
-// All is well if both tables are settled.
+// The status is `Fine` if the run is settled, and else `SomeUndecided`.
 fn status_made(stable: bool) -> Status
     ensures status { result ≡ status_made stable }
     ensures answer { IsAnswer result }

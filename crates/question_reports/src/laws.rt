@@ -1,4 +1,4 @@
-//! These are the laws of reports. Each function does nothing; its contract is the law.
+//! This module has the laws of reports. Each function does nothing: its contract is the law.
 
 ghost use Rattle.std.specs.Prelude.{◌≡◌, ◌<◌, ◌-◌, ℕ, List, slice_index};
 ghost use Rattle.game_model.specs.Bounds.{Reaches};

@@ -1,7 +1,7 @@
 //! This crate reports on a question that is posed, or drawn.
 //!
 //! - [`bracket_report`] answers a question from a bracket, with its certificate if that is asked for.
-//! - [`within_report`] and [`next_report`] answer from exactly so many steps.
+//! - [`within_report`] and [`next_report`] answer from exactly as many steps as the formula names.
 //! - [`nested_report`] answers a formula with others inside.
 //! - [`audit_report`] answers a question from a certificate that was accepted, whoever made it.
 //! - [`solved_report`] answers a question from a plan that the tables of a solver led to.

@@ -78,7 +78,7 @@ fn append_if_marked(text: &mut Vec<u8>, marks: &Marks, state: u32) -> Result<(),
     append(text, b"\n")
 }
 
-// Says whether all of these states are marked.
+// Returns whether all of these states are marked.
 fn all_marked(marks: &Marks, initial: &[u32]) -> bool
     requires { All (λ s. s < length marks.now) initial.now }
     ensures { result ≡ list_all (is_marked marks.now) initial.now }

@@ -1,4 +1,4 @@
-//! This module makes the answer to a problem with a bound on the steps: exactly so many are made.
+//! This module makes the answer to a problem with a bound on the steps: exactly that many are made.
 
 ghost use Rattle.std.specs.Prelude.{◌≡◌, ◌*◌, ◌<◌, ◌≤◌, ℕ, All, IfOk, false, length, slice_index};
 ghost use Rattle.game_model.specs.Limits.{unit};
@@ -24,7 +24,7 @@ use std::thread::Threads;
 use verdicts::How;
 use verdicts::laws::verdicts_of_fractions_are_right;
 
-/// Reports on `F<=k` and `U<=k` from the values of k steps. The only error is that memory ran out.
+/// Reports on `F<=k` and `U<=k` from the k-step values. The only error is that memory ran out.
 pub fn within_report<R: Threads + Sync, G: Gate + Sync>(
     rt: &R,
     alloc: Global,
@@ -80,7 +80,7 @@ pub fn next_report<R: Threads + Sync, G: Gate + Sync>(
     sweep_report(alloc, question, &sweep, 1, &posed.initial, formula)
 }
 
-// Reports on a sweep of so many steps, and bounds any numerators that give its exact values.
+// Reports on a sweep of this many steps, and bounds any numerators that give its exact values.
 fn sweep_report(
     alloc: Global,
     question: &Question,

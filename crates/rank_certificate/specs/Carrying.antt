@@ -1,4 +1,4 @@
--- The least ranks and the first choices for them make values ranked.
+-- This module defines the least ranks, and the first choices for them, that prove values.
 use Rattle.std.specs.Prelude.{◌≡◌, ℕ, zero, suc, ◌<◌, ◌≤◌, ◌⊎◌, true, List, length, slice_index, slice_index_or, Option}
 use Rattle.std.specs.Prelude.{Some, None, IsSomeAnd}
 use Rattle.std.specs.Option.{ForSome}
@@ -13,7 +13,7 @@ use Rattle.rank_certificate.specs.Ranking.{IsEnough, NeedsRank}
 use Rattle.rank_certificate.specs.Faults.{HasToRank}
 use Rattle.rank_certificate.specs.Layers.{LeadsInto}
 
--- Some choices and ranks make these values ranked.
+-- Some choices and ranks prove these values.
 abbrev pub CanBeRanked : Query → List ℕ → Type 0
 CanBeRanked q values = (choices : List (Option ℕ)) × (ranks : List ℕ) × Ranked q values choices ranks
 

@@ -1,4 +1,4 @@
--- Values, choices and ranks may have a fault.
+-- This module defines the first fault of values, choices and ranks.
 use Rattle.std.specs.Prelude.{◌≡◌, ◌≢◌, ℕ, ◌<◌, ◌≤◌, ◌⊎◌, true, List, length, slice_index, slice_index_or, All, Option}
 use Rattle.std.specs.Prelude.{Some, None}
 use Rattle.game_model.specs.declared.game.Side.{Side}

@@ -1,4 +1,4 @@
--- The layered ranks are the least that make values and choices ranked.
+-- This module defines the layered ranks: the least that prove values with given choices.
 use Rattle.std.specs.Prelude.{◌≡◌, ℕ, zero, suc, ◌<◌, ◌≤◌, ◌⊎◌, List, length, slice_index, slice_index_or, Option, None}
 use Rattle.game_model.specs.Game.{Distribution, choices_of, choice_of, no_edge}
 use Rattle.game_model.specs.Query.{Query, states, side_at}
@@ -6,7 +6,7 @@ use Rattle.game_model.specs.Ranks.{Ranked}
 use Rattle.rank_certificate.specs.Ranking.{NeedsRank}
 use Rattle.rank_certificate.specs.Faults.{HasToRank}
 
--- Some ranks make these values and choices ranked.
+-- Some ranks prove these values with these choices.
 abbrev pub IsRankable : Query → List ℕ → List (Option ℕ) → Type 0
 IsRankable q values choices = (ranks : List ℕ) × Ranked q values choices ranks
 

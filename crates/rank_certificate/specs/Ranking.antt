@@ -1,4 +1,4 @@
--- Ranked tables ask this of one state.
+-- This module defines what a ranked table needs at one state.
 use Rattle.std.specs.Prelude.{◌≡◌, ℕ, ◌*◌, ◌<◌, ◌≤◌, ◌⊎◌, true, List, length, slice_index_or, Option, None, IsSomeAnd}
 use Rattle.game_model.specs.declared.game.Side.TheVariants.{Max, Min}
 use Rattle.game_model.specs.Game.{Distribution, choices_of, choice_of, no_edge}

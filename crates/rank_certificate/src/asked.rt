@@ -28,7 +28,7 @@ impl Asked<'_> {
     ghost use Rattle.std.specs.Prelude.{ℕ, ◌<◌, ◌↔◌, IsTrue};
     ghost use Rattle.rank_certificate.specs.inside.OfAsked.{states_in, NeedsRankIn};
 
-    /// Says whether a state has a positive value and is neither goal nor dead.
+    /// Returns whether a state has a positive value and is neither goal nor dead.
     pub fn needs_rank(&self, state: u32) -> bool
         requires { state < states_in self.now }
         ensures { IsTrue result ↔ NeedsRankIn self.now state }

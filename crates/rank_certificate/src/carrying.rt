@@ -1,4 +1,4 @@
-//! Some choices carry a state into the states whose ranks were found.
+//! This module finds the choices that carry a state into the states whose ranks were found.
 
 ghost use Rattle.std.specs.Prelude.{◌<◌, ◌↔◌, length, IsTrue};
 ghost use Rattle.rank_certificate.specs.inside.Growth.{HasRankWithin};
@@ -17,7 +17,7 @@ impl Asked<'_> {
     ghost use Rattle.rank_certificate.specs.Carrying.{MayTake};
     ghost use Rattle.rank_certificate.specs.inside.OfAsked.{states_in, value_in, only_in, CarriesIn, IsFirstCarryingIn};
 
-    /// Gives the first choice below a limit that carries a state ([`Asked::carries`]).
+    /// Returns the first choice below a limit that carries a state ([`Asked::carries`]).
     pub fn first_carrying(
         &self,
         row: &Row<'_>,
@@ -42,7 +42,7 @@ impl Asked<'_> {
         None
     }
 
-    /// Gives a number such that no choice below it may be taken: the given choice of the maximiser, or else 0.
+    /// Returns a number such that no choice below it may be taken: the given choice of the maximiser, or else 0.
     fn first_taken(&self, state: u32) -> u32
         requires { state < states_in self.now }
         ensures { (value : ℕ → ℕ) (c : ℕ) → c < result
@@ -57,7 +57,7 @@ impl Asked<'_> {
         }
     }
 
-    /// Says whether every choice of a state carries it ([`Asked::carries`]).
+    /// Returns whether every choice of a state carries it ([`Asked::carries`]).
     pub fn all_carry(&self, row: &Row<'_>, ranks: &[Option<u32>], level: u32, state: u32) -> bool
         requires state { state < states_in self.now }
         requires row { row.now ≡ choices_of self.now.question.now.game state }
@@ -73,9 +73,9 @@ impl Asked<'_> {
         true
     }
 
-    /// Says whether a choice of a state may be taken, and leads to a greater value, or to an equal one whose rank was
-    /// found. If choices of the maximiser are given, these may be taken and each choice of the minimiser. If none are
-    /// given, each choice that gives its state at least the value may be taken.
+    /// Returns whether a choice of a state may be taken, and leads to a greater value, or to an equal one whose rank
+    /// was found. If choices of the maximiser are given, these may be taken and each choice of the minimiser. If none
+    /// are given, each choice that gives its state at least the value may be taken.
     pub fn carries(
         &self,
         row: &Row<'_>,
@@ -101,7 +101,7 @@ impl Asked<'_> {
         }
     }
 
-    /// Says whether a choice has to be ranked: the given one of the maximiser, and each of the minimiser.
+    /// Returns whether a choice has to be ranked: the given one of the maximiser, and each of the minimiser.
     fn is_asked(&self, choices: &[Option<u32>], state: u32, choice: u32) -> bool
         requires state { state < states_in self.now }
         requires choices { length choices.now ≡ states_in self.now }
@@ -114,7 +114,7 @@ impl Asked<'_> {
         }
     }
 
-    /// Says whether a choice gives its state at least the value.
+    /// Returns whether a choice gives its state at least the value.
     fn pays(&self, row: &Row<'_>, state: u32, choice: u32) -> bool
         requires state { state < states_in self.now }
         requires row { row.now ≡ choices_of self.now.question.now.game state }
@@ -125,7 +125,7 @@ impl Asked<'_> {
         gives(row, choice, self.values, self.values[state as usize])
     }
 
-    /// Says whether a choice has a successor of greater value, or one of equal value whose rank was found.
+    /// Returns whether a choice has a successor of greater value, or one of equal value whose rank was found.
     fn leads_low(
         &self,
         row: &Row<'_>,
@@ -152,7 +152,7 @@ impl Asked<'_> {
     }
 }
 
-/// Says whether a rank was found for a state, and is this one or less.
+/// Returns whether a rank was found for a state, and is this one or less.
 fn is_low(ranks: &[Option<u32>], level: u32, state: u32) -> bool
     requires { state < length ranks.now }
     ensures { IsTrue result ↔ HasRankWithin ranks.now level state }

@@ -78,7 +78,7 @@ pub fn check_ranks(
     Ok(())
 }
 
-/// Gives the first state whose entry is above the unit.
+/// Returns the first state whose entry is above the unit.
 pub fn first_over(values: &[u64]) -> Option<u32>
     requires { length values.now ≤ most_states }
     ensures { MatchOption result (All (λ v. v ≤ unit) values.now) (IsFirstOver values.now) }

@@ -41,7 +41,7 @@ pub fn check_choice(
     Ok(())
 }
 
-/// Says whether a choice has a successor of greater value, or of equal value and smaller rank.
+/// Returns whether a choice has a successor of greater value, or of equal value and smaller rank.
 fn leads_onward(question: &Question, values: &[u64], ranks: &[u32], state: u32, choice: u32) -> bool
     requires values { length values.now ≡ states question.now }
     requires ranks { length ranks.now ≡ states question.now }
@@ -60,7 +60,7 @@ fn leads_onward(question: &Question, values: &[u64], ranks: &[u32], state: u32, 
     false
 }
 
-/// Says whether `to` has a greater value than `state`, or an equal value and a smaller rank.
+/// Returns whether `to` has a greater value than `state`, or an equal value and a smaller rank.
 fn is_onward(values: &[u64], ranks: &[u32], state: u32, to: u32) -> bool
     requires ranks { length ranks.now ≡ length values.now }
     requires state { state < length values.now }

@@ -1,4 +1,4 @@
-//! Values and choices have layered ranks.
+//! This module finds the layered ranks of values and choices.
 
 ghost use Rattle.std.specs.Prelude.{◌≡◌, length, IfOk};
 ghost use Rattle.game_model.specs.Query.{states};
@@ -12,7 +12,7 @@ use game_outside::OutOfMemory;
 use predecessors::Predecessors;
 use std::alloc::Global;
 
-/// Gives the layered ranks of values and choices that can be ranked. They prove the values with the choices
+/// Returns the layered ranks of values and choices that can be ranked. They prove the values with the choices
 /// ([`crate::check_ranks`]). A rank is 0 at goals, dead states and states of value 0. Elsewhere it is the least number
 /// from 1 up such that the choice of the maximiser, or every choice of the minimiser, has a successor of greater value,
 /// or one of equal value and smaller rank. The search is that of [`crate::rank_table`], except that the maximiser may
@@ -33,7 +33,7 @@ pub fn find_ranks(
     find_ranks_over(alloc, question, values, choices, &predecessors)
 }
 
-/// Gives the ranks of [`find_ranks`] for a caller that has the lists of predecessors of the question's game. The only
+/// Returns the ranks of [`find_ranks`] for a caller that has the lists of predecessors of the question's game. The only
 /// error is that memory ran out.
 pub fn find_ranks_over(
     alloc: Global,

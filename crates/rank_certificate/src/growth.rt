@@ -21,7 +21,7 @@ pub struct Growth {
     pub order: Vec<u32>,
 }
 
-/// If a layer has fewer than one in so many of the states, the moves to its states are followed.
+/// If a layer has fewer than one in this many of the states, the moves to its states are followed.
 const STATES_FOR_A_PASS: usize = 16;
 
 impl Growth {

@@ -1,4 +1,4 @@
-//! These are laws of ranked tables. Each function does nothing; its contract is the law.
+//! This module has the laws of ranked tables. Each function does nothing: its contract is the law.
 
 ghost use Rattle.std.specs.Prelude.{◌≡◌, ℕ, ◌<◌, true, List, Option, None, length, slice_index, slice_index_or};
 ghost use Rattle.game_model.specs.declared.game.Side.TheVariants.{Min};

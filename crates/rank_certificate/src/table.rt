@@ -1,4 +1,4 @@
-//! A plan of choices and ranks makes values ranked.
+//! This module finds the plan of choices and ranks that proves values.
 
 ghost use Rattle.std.specs.Prelude.{◌≡◌, ℕ, ◌<◌, ◌≤◌, ◌↔◌, length, slice_index, slice_index_or, All, Some, None, IfOk, IfSome, IsTrue, MatchOption, option_copied};
 ghost use Rattle.game_model.specs.Query.{states};
@@ -27,11 +27,11 @@ pub struct RankPlan {
     pub ranks: Vec<u32>,
 }
 
-/// Gives the plan that makes values in units ranked ([`crate::check_ranks`]), with the least ranks. It gives none
-/// exactly if no choices and ranks make them ranked. A rank is 0 at goals, dead states and states of value 0. Elsewhere
-/// it is the least number from 1 up such that some choice of the maximiser, or every choice of the minimiser, gives at
-/// least the value and has a successor of greater value, or one of equal value and smaller rank. The maximiser takes
-/// the first such choice there, and has none elsewhere.
+/// Returns the plan that proves values in units ([`crate::check_ranks`]), with the least ranks. It returns none exactly
+/// if no choices and ranks prove them. A rank is 0 at goals, dead states and states of value 0. Elsewhere it is the
+/// least number from 1 up such that some choice of the maximiser, or every choice of the minimiser, gives at least the
+/// value and has a successor of greater value, or one of equal value and smaller rank. The maximiser takes the first
+/// such choice there, and has none elsewhere.
 ///
 /// A state whose down step is below its value refuses the values at once. If there is no such state, the search goes
 /// backward from the states of rank 0: it looks at a state again only when a successor got a rank, or a large part of
@@ -51,7 +51,7 @@ pub fn rank_table(
     rank_table_over(alloc, question, values, &predecessors)
 }
 
-/// Gives the plan of [`rank_table`] for a caller that has the lists of predecessors of the question's game. The only
+/// Returns the plan of [`rank_table`] for a caller that has the lists of predecessors of the question's game. The only
 /// error is that memory ran out.
 pub fn rank_table_over(
     alloc: Global,
@@ -76,7 +76,7 @@ pub fn rank_table_over(
     rank_standing(alloc, question, values, predecessors)
 }
 
-/// Gives the plan of [`rank_table_over`] for a caller that knows that no state refuses the values at once: a goal has
+/// Returns the plan of [`rank_table_over`] for a caller that knows that no state refuses the values at once: a goal has
 /// the unit, and no down step is below its value. The only error is that memory ran out.
 pub fn rank_standing(
     alloc: Global,
@@ -146,7 +146,7 @@ fn all_layers(alloc: Global, asked: &Asked<'_>) -> Result<Growth, OutOfMemory>
     Ok(growth)
 }
 
-/// Gives the ranks as numbers, or none if a state has no rank.
+/// Returns the ranks as numbers, or none if a state has no rank.
 pub fn all_ranks(alloc: Global, ranks: &[Option<u32>]) -> Result<Option<Vec<u32>>, OutOfMemory>
     ensures { IfOk result (λ found. MatchOption found ((s : ℕ) × (s < length ranks.now)
         × (slice_index_or ranks.now s None ≡ None))
@@ -164,7 +164,7 @@ pub fn all_ranks(alloc: Global, ranks: &[Option<u32>]) -> Result<Option<Vec<u32>
     Ok(Some(numbers))
 }
 
-/// Says whether no state refuses the values at once.
+/// Returns whether no state refuses the values at once.
 fn all_stand(question: &Question, values: &[u64]) -> bool
     requires values { length values.now ≡ states question.now }
     requires units { All (λ v. v ≤ unit) values.now }
@@ -178,7 +178,7 @@ fn all_stand(question: &Question, values: &[u64]) -> bool
     true
 }
 
-/// Says whether a state does not refuse the values at once.
+/// Returns whether a state does not refuse the values at once.
 fn stands(question: &Question, values: &[u64], state: u32) -> bool
     requires values { length values.now ≡ states question.now }
     requires units { All (λ v. v ≤ unit) values.now }

@@ -10,9 +10,9 @@ use Rattle.reward_check.specs.declared.tables.RewardTables.{RewardTables}
 abbrev pub flat_rewards : List (List Distribution) → List ℕ → Rewards
 flat_rewards game flat s c = slice_index flat (choices_below game s + c)
 
--- A certificate has a question, its rewards rounded down and rounded up, and for each state: whether its lower value is
--- a number (else it is infinite), whether its upper value is a number (else there is none), both values, the choice of
--- the maximiser, the reply of the minimiser, and the rank.
+-- A certificate has a question, and its rewards rounded down and rounded up. For each state it says whether the lower
+-- value is a number (else it is infinite), and whether the upper value is a number (else there is none). Each state
+-- also has both values, the choice of the maximiser, the reply of the minimiser, and the rank.
 pub record Certificate : Type 0 where
   pub question : Query
   pub low : Rewards

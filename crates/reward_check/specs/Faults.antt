@@ -1,4 +1,4 @@
--- A certificate of rewards may have a fault.
+-- This module defines the first fault of a certificate of rewards.
 use Rattle.std.specs.Prelude.{◌≡◌, ℕ, ◌+◌, ◌*◌, ◌<◌, ◌⊎◌, true, slice_index}
 use Rattle.game_model.specs.Game.{Distribution, choice_of}
 use Rattle.game_model.specs.Query.{states, is_goal, side_at}
@@ -21,7 +21,7 @@ IsOver table entry reward choice = entry * choice.total < reward * choice.total 
 abbrev pub IsShort : (ℕ → ℕ) → ℕ → ℕ → Distribution → Type 0
 IsShort table entry reward choice = reward * choice.total + weighted_sum table choice.edges < entry * choice.total
 
--- A part finds that a choice lacks this first.
+-- This is the first thing that a part finds lacking in a choice.
 abbrev pub IsLackOf : Part → Certificate → ℕ → ℕ → RewardCause → Type 0
 IsLackOf Upper c s k cause =
     ((cause ≡ Leaves k) × LeadsAway c.bounded (choice_of c.question.game s k))

@@ -1,4 +1,4 @@
--- A check asks this of the goals, and part by part of the choices of other states.
+-- This module defines what a check needs of the goals, and part by part of the choices of other states.
 use Rattle.std.specs.Prelude.{◌≡◌, ℕ, ◌<◌, ◌⊎◌, true, false, List, length, slice_index, slice_index_or}
 use Rattle.std.specs.Prelude.{Option, Some, None, IsSomeAnd}
 use Rattle.game_model.specs.declared.game.Side.{Side}
@@ -85,7 +85,7 @@ pub record IsPassedAt (part : Part) (c : Certificate) (s : ℕ) : Type 0 where
 abbrev pub IsPassed : Part → Certificate → Type 0
 IsPassed part c = (s : ℕ) → s < states c.question → IsPassedAt part c s
 
--- A certificate is accepted.
+-- A certificate is accepted if both values of each goal are 0 and every part passes each state.
 pub record IsAccepted (c : Certificate) : Type 0 where
   pub goals : GoalsHaveZeros c
   pub parts : (part : Part) → IsPassed part c

@@ -1,4 +1,4 @@
-//! A choice may keep away from the goals.
+//! This module says when a choice keeps away from the goals.
 
 ghost use Rattle.std.specs.Prelude.{◌≡◌, ◌<◌, ◌↔◌, length, slice_index, IsTrue};
 ghost use Rattle.game_model.specs.Game.{choices_of, choice_of};
@@ -7,7 +7,7 @@ ghost use Rattle.expected_rewards.specs.Tables.{Sinks, Lingers};
 
 use game_model::Question;
 
-/// Says whether some successor of a choice is not finite and has a smaller rank.
+/// Returns whether some successor of a choice is not finite and has a smaller rank.
 pub fn sinks(question: &Question, finite: &[bool], ranks: &[u32], state: u32, choice: u32) -> bool
     requires finite { length finite.now ≡ states question.now }
     requires ranks { length ranks.now ≡ states question.now }
@@ -26,7 +26,7 @@ pub fn sinks(question: &Question, finite: &[bool], ranks: &[u32], state: u32, ch
     false
 }
 
-/// Says whether all successors of a choice are not finite and have ranks that are no greater.
+/// Returns whether all successors of a choice are not finite and have ranks that are no greater.
 pub fn lingers(question: &Question, finite: &[bool], ranks: &[u32], state: u32, choice: u32) -> bool
     requires finite { length finite.now ≡ states question.now }
     requires ranks { length ranks.now ≡ states question.now }

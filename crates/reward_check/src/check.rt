@@ -1,4 +1,4 @@
-//! A certificate of rewards is checked here.
+//! This module checks a certificate of rewards.
 
 ghost use Rattle.std.specs.Prelude.{◌≡◌, ◌<◌, ◌↔◌, ◌⊎◌, ℕ, true, IsTrue, IsOk, IfErr};
 ghost use Rattle.game_model.specs.Query.{states, is_goal};
@@ -99,7 +99,7 @@ fn check_goals(tables: &RewardTables<'_>) -> Result<(), RewardFault>
     Ok(())
 }
 
-/// Says whether both values of a state are 0.
+/// Returns whether both values of a state are 0.
 fn has_zeros(tables: &RewardTables<'_>, state: u32) -> bool
     requires { state < states tables.now.question.now }
     ensures { IsTrue result ↔ HasZeros (said tables.now) state }

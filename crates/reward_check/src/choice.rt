@@ -1,4 +1,4 @@
-//! Each part checks choices.
+//! This module checks a choice for each part of a certificate.
 
 ghost use Rattle.std.specs.Prelude.{◌≡◌, ◌<◌, ◌↔◌, length, IsOk, IfErr};
 ghost use Rattle.game_model.specs.Game.{choices_of};

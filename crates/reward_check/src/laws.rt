@@ -1,4 +1,4 @@
-//! These are laws of certificates of rewards. Each function does nothing; its contract is the law.
+//! This module has the laws of certificates of rewards. Each function does nothing: its contract is the law.
 
 ghost use Rattle.std.specs.Prelude.{◌≡◌, ℕ, ◌<◌, false, length};
 ghost use Rattle.game_model.specs.Query.{IsQuery, states, is_dead};

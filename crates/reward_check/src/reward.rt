@@ -10,7 +10,7 @@ ghost use Rattle.reward_check.specs.Certificates.{flat_rewards};
 use fixed_bellman::{gives, holds};
 use game_model::Question;
 
-/// Gives the reward of a choice.
+/// Returns the reward of a choice.
 fn reward_of(question: &Question, rewards: &[u64], state: u32, choice: u32) -> u64
     requires { state < states question.now }
     ensures { result ≡ flat_rewards question.now.game rewards.now state choice }
@@ -24,7 +24,7 @@ fn reward_of(question: &Question, rewards: &[u64], state: u32, choice: u32) -> u
     }
 }
 
-/// Says whether the reward of a choice plus its weighted average over a table is at most the entry of the state.
+/// Returns whether the reward of a choice plus its weighted average over a table is at most the entry of the state.
 pub fn is_covered(
     question: &Question,
     rewards: &[u64],
@@ -48,7 +48,7 @@ pub fn is_covered(
     holds(&question.row(state), choice, table, entry - reward)
 }
 
-/// Says whether the reward of a choice plus its weighted average over a table is at least the entry of the state.
+/// Returns whether the reward of a choice plus its weighted average over a table is at least the entry of the state.
 pub fn is_paid(question: &Question, rewards: &[u64], table: &[u64], state: u32, choice: u32) -> bool
     requires length { length table.now ≡ states question.now }
     requires units { All (λ v. v ≤ unit) table.now }

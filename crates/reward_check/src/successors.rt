@@ -1,4 +1,4 @@
-//! A choice leads to its successors.
+//! This module tests the successors of a choice.
 
 ghost use Rattle.std.specs.Prelude.{◌≡◌, ◌<◌, ◌↔◌, false, length, slice_index, IsTrue};
 ghost use Rattle.game_model.specs.Game.{choices_of, choice_of};
@@ -8,7 +8,7 @@ ghost use Rattle.reward_check.specs.Parts.{LeadsDown};
 
 use game_model::Question;
 
-/// Says whether some successor of a choice is not marked.
+/// Returns whether some successor of a choice is not marked.
 pub fn leads_away(question: &Question, marks: &[bool], state: u32, choice: u32) -> bool
     requires marks { length marks.now ≡ states question.now }
     requires state { state < states question.now }
@@ -26,7 +26,7 @@ pub fn leads_away(question: &Question, marks: &[bool], state: u32, choice: u32) 
     false
 }
 
-/// Says whether some successor of a choice has a smaller rank.
+/// Returns whether some successor of a choice has a smaller rank.
 pub fn leads_down(question: &Question, ranks: &[u32], state: u32, choice: u32) -> bool
     requires ranks { length ranks.now ≡ states question.now }
     requires state { state < states question.now }

@@ -1,4 +1,4 @@
-//! A certificate of rewards is a set of tables.
+//! This module has the tables of a certificate of rewards.
 
 ghost use Rattle.std.specs.Prelude.{◌≡◌, ℕ, ◌<◌, ◌≤◌, false, length, All};
 ghost use Rattle.game_model.specs.Limits.{unit};

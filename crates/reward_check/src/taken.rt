@@ -13,7 +13,7 @@ use crate::range::ChoiceRange;
 use crate::tables::RewardTables;
 use game_model::Side;
 
-/// Says whether a part looks at a state.
+/// Returns whether a part looks at a state.
 pub fn looks_at(tables: &RewardTables<'_>, part: Part, state: u32) -> bool
     requires { state < states tables.now.question.now }
     ensures { IsTrue result ↔ LooksAt part (said tables.now) state }
@@ -29,7 +29,7 @@ pub fn looks_at(tables: &RewardTables<'_>, part: Part, state: u32) -> bool
     }
 }
 
-/// Gives the choices of a state that may be taken, or none if the planner is to move and has no choice in range.
+/// Returns the choices of a state that may be taken, or none if the planner is to move and has no choice in range.
 pub fn taken(tables: &RewardTables<'_>, part: Part, state: u32) -> Option<ChoiceRange>
     requires { state < states tables.now.question.now }
     ensures own { IfNone result (side_at tables.now.question.now state ≡ planner_of part) }
@@ -56,7 +56,7 @@ pub fn taken(tables: &RewardTables<'_>, part: Part, state: u32) -> Option<Choice
     })
 }
 
-/// Gives the side whose plan a part is about.
+/// Returns the side whose plan a part is about.
 fn planner(part: Part) -> Side
     ensures { result ≡ planner_of part }
 {
@@ -68,7 +68,7 @@ fn planner(part: Part) -> Side
     }
 }
 
-/// Gives the choice of that plan at a state.
+/// Returns the choice of that plan at a state.
 fn planned(tables: &RewardTables<'_>, part: Part, state: u32) -> Option<u32>
     requires { state < states tables.now.question.now }
     ensures { result ≡ slice_index_or (plan_of part (said tables.now)) state None }
@@ -81,7 +81,7 @@ fn planned(tables: &RewardTables<'_>, part: Part, state: u32) -> Option<u32>
     }
 }
 
-/// Gives the cause if a plan has no choice in range.
+/// Returns the cause if a plan has no choice in range.
 pub fn missing(part: Part) -> RewardCause
     ensures { result ≡ missing_of part }
 {
@@ -93,7 +93,7 @@ pub fn missing(part: Part) -> RewardCause
     }
 }
 
-/// Says whether two sides are the same.
+/// Returns whether two sides are the same.
 fn same(one: Side, other: Side) -> bool
     ensures { IsTrue result ↔ (one ≡ other) }
 {

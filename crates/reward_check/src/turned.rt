@@ -7,7 +7,7 @@ use game_model::Question;
 use game_outside::OutOfMemory;
 use std::alloc::Global;
 
-/// Gives the question with exchanged sides. The only error is that memory ran out.
+/// Returns the question with exchanged sides. The only error is that memory ran out.
 pub fn turn<'g>(alloc: Global, question: &Question<'g>) -> Result<Question<'g>, OutOfMemory>
     ensures { IfOk result (λ other. other ≡ turned question.now) }
 {

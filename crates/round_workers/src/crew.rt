@@ -42,7 +42,7 @@ impl Crew {
         }
     }
 
-    /// Gives the first half of the workers, and the others.
+    /// Returns the first half of the workers, and the others.
     pub fn halves(self, game: &Game) -> (Crew, Crew)
         requires crew { IsCrew game.now self }
         requires some { 2 ≤ self.last - self.first }

@@ -99,7 +99,7 @@ fn fork<R: Threads + Sync, P: Posing + Send + Sync, G: Gate + Sync>(
     meet(task.table, left, right)
 }
 
-/// Gives the halves of a crew of at least two workers.
+/// Returns the halves of a crew of at least two workers.
 fn halves<P: Posing>(table: &ValueTable<'_, P>, crew: Crew) -> (Crew, Crew)
     requires crew { IsCrew P.posed.game crew }
     requires some { 2 ≤ crew.last - crew.first }

@@ -1,4 +1,4 @@
-//! These are laws of a round. Each function does nothing: its contract is the law.
+//! This module has the laws of a round. Each function does nothing: its contract is the law.
 
 ghost use Rattle.std.specs.Prelude.{◌≡◌, ℕ, ◌<◌, ◌≤◌, length, List};
 ghost use Rattle.game_model.specs.Game.{Distribution, IsGame};

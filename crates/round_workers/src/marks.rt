@@ -11,7 +11,7 @@ use predecessors::Predecessors;
 /// This many marks in a row are looked at together.
 pub const STRETCH: u32 = 64;
 
-/// Says whether there is a mark from one place up to and not including another.
+/// Returns whether there is a mark from one place up to and not including another.
 pub fn has_mark(marks: &[bool], from: u32, to: u32) -> bool
     requires range { from ≤ to }
     requires inside { to ≤ length marks.now }
@@ -24,7 +24,7 @@ pub fn has_mark(marks: &[bool], from: u32, to: u32) -> bool
     any
 }
 
-/// Gives the first place from one on that has a mark, or the number of marks if there is none.
+/// Returns the first place from one on that has a mark, or the number of marks if there is none.
 pub fn next_mark(marks: &[bool], from: u32) -> u32
     requires few { length marks.now ≤ most_states }
     requires from { from ≤ length marks.now }
@@ -34,7 +34,7 @@ pub fn next_mark(marks: &[bool], from: u32) -> u32
     first_mark(marks, begin)
 }
 
-/// Says where the first stretch from a place on begins that has a mark.
+/// Returns where the first stretch from a place on begins that has a mark.
 fn marked_stretch(marks: &[bool], from: u32) -> u32
     requires few { length marks.now ≤ most_states }
     requires from { from ≤ length marks.now }
@@ -53,7 +53,7 @@ fn marked_stretch(marks: &[bool], from: u32) -> u32
     place
 }
 
-/// Gives the first place from one on that has a mark. It looks at one place after another.
+/// Returns the first place from one on that has a mark. It looks at one place after another.
 fn first_mark(marks: &[bool], from: u32) -> u32
     requires few { length marks.now ≤ most_states }
     requires from { from ≤ length marks.now }

@@ -8,7 +8,7 @@ use game_model::Game;
 /// A round has at most this many workers.
 pub const MOST_WORKERS: u32 = 64;
 
-/// Gives the worker of a state out of `workers`: the edges of the states below it times the workers, over all edges,
+/// Returns the worker of a state out of `workers`: the edges of the states below it times the workers, over all edges,
 /// rounded down.
 pub fn worker_of(game: &Game, workers: u32, state: u32) -> u32
     requires few { workers ≤ most_workers }
@@ -20,7 +20,7 @@ pub fn worker_of(game: &Game, workers: u32, state: u32) -> u32
     (below / game.edges_below(game.states())) as u32
 }
 
-/// Gives the first state of a worker or of a later one, or the number of states if there is none.
+/// Returns the first state of a worker or of a later one, or the number of states if there is none.
 pub fn first_state(game: &Game, workers: u32, worker: u32) -> u32
     requires few { workers ≤ most_workers }
     ensures { BeginsBlock game.now workers worker result }

@@ -91,7 +91,7 @@ fn pass_over<G: Gate>(worker: u32, from: u32, to: u32, gate: &G) {
     }
 }
 
-/// Visits each state of a stretch. Says how many exchanges were won.
+/// Visits each state of a stretch. Returns how many exchanges were won.
 fn walk<P: Posing, G: Gate>(
     task: &Task<'_, P, G>,
     pass: &mut Pass<P>,
@@ -118,8 +118,8 @@ fn walk<P: Posing, G: Gate>(
     raises
 }
 
-/// Updates a state that has a mark in either list, or any state in a whole round. Says whether an exchange won. If so,
-/// the state's predecessors after it are marked, unless the round is whole.
+/// Updates a state that has a mark in either list, or any state in a whole round. Returns whether an exchange won. If
+/// so, the state's predecessors after it are marked, unless the round is whole.
 fn visit<P: Posing, G: Gate>(
     task: &Task<'_, P, G>,
     pass: &mut Pass<P>,

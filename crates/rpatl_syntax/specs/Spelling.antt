@@ -1,4 +1,4 @@
--- A formula has one spelling.
+-- This module defines the one spelling of a formula.
 use Rattle.std.specs.Prelude.{ℕ, ◌==◌, nat_lt, List, [], ◌∷◌, ◌++◌, Option, Some, None, if◌then◌else◌, codes, decimal}
 use Rattle.fractions.specs.Fraction.{Fraction}
 use Rattle.formula_reader.specs.declared.formula.Bound.{Bound}

@@ -25,7 +25,7 @@ pub fn dual(alloc: Global, formula: &Formula) -> Result<Formula, OutOfMemory>
     })
 }
 
-// Gives the bound on 1 minus the probability.
+// Returns the bound on 1 minus the probability.
 fn mirrored(bound: &Bound) -> Bound
     requires { IsAtMostOne bound.now }
     ensures { result ≡ dual_bound bound.now }

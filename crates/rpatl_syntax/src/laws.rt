@@ -1,4 +1,4 @@
-//! These are laws of spellings and duals. Each function does nothing: its contract is the law.
+//! This module has the laws of spellings and duals. Each function does nothing: its contract is the law.
 
 ghost use Rattle.std.specs.Prelude.{◌≡◌, ◌≤◌, ◌-◌, ◌↔◌, ℕ, List};
 ghost use Rattle.formula_reader.specs.declared.formula.Bound.{Bound};

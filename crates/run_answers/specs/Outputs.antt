@@ -44,7 +44,8 @@ abbrev pub IsSpelledOut : Option Certificate → Type 0
 IsSpelledOut None = Unit {0}
 IsSpelledOut (Some certificate) = IsSpellable certificate.formula
 
--- The text of the output has one reading.
+-- The output is within its limits, and the grammar can spell the formula of its certificate. The law of outputs needs
+-- this: the text then has one reading.
 pub record IsWholeOutput (output : Output) : Type 0 where
   pub limits : IsInLimits output
   pub formula : IsSpelledOut output.certificate

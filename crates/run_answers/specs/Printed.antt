@@ -17,7 +17,7 @@ use Rattle.run_answers.specs.Outputs.{Certificate, Output}
 use Rattle.run_answers.specs.declared.status.Status.{Status}
 use Rattle.run_answers.specs.declared.status.Status.TheVariants.{Fine, SomeFalse, SomeUndecided}
 
--- The bounds of `G` are computed from its dual, so 1 less the value of the dual is asked for.
+-- The value of `G` is 1 less that of its dual, so the bounds of the dual are mirrored.
 abbrev pub is_mirrored : PathKind → Bool
 is_mirrored Until = false
 is_mirrored (Within steps) = false
@@ -43,7 +43,7 @@ output_of asked f how initial plan = record {
   certificate = certificate_of asked f plan;
 }
 
--- The status is that some line is False, or else that some line is Undecided, or else that all is well.
+-- The status is `SomeFalse` if some line is False, else `SomeUndecided` if some line is Undecided, and else `Fine`.
 abbrev pub status_of : List ReportLine → Status
 status_of lines = if list_any (λ line. is_no line.verdict) lines then SomeFalse else
     (if list_any (λ line. is_undecided line.verdict) lines then SomeUndecided else Fine)

@@ -55,7 +55,7 @@ pub fn report_of(
     })
 }
 
-/// Says whether the tables of a formula are those of its dual, whose bounds are mirrored when they are printed.
+/// Returns whether the tables of a formula are those of its dual, whose bounds are mirrored when they are printed.
 pub fn is_mirrored(formula: &Formula) -> bool
     ensures { result ≡ is_mirrored formula.now.kind }
 {
@@ -122,7 +122,8 @@ fn line_of(
     }
 }
 
-// The status of a report says that some line is False, or else that some line is Undecided, or that none is.
+// Returns the status of a report: `SomeFalse` if some line is False, else `SomeUndecided` if some line is Undecided,
+// and else `Fine`.
 fn status_of(lines: &[ReportLine]) -> Status
     ensures status { result ≡ status_of lines.now }
     ensures answer { IsAnswer result }

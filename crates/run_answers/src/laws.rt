@@ -1,4 +1,4 @@
-//! These are the laws of the text of an answer. Each function does nothing; its contract is the law.
+//! This module has the laws of the text of an answer. Each function does nothing: its contract is the law.
 
 ghost use Rattle.std.specs.Prelude.{◌≡◌};
 ghost use Rattle.run_answers.specs.Outputs.{Output, output_text, IsWholeOutput};

@@ -5,12 +5,12 @@ ghost use Rattle.std.specs.Prelude.{◌≡◌};
 /// This says how a run ends. The exit status of the program is its number.
 #[derive(Clone, Copy, Debug, PartialEq, Eq)]
 pub enum Status {
-    /// Every initial state has its line, and none is False or Undecided; or both tables of a made game are settled; or
-    /// every initial state is sure.
+    /// Every initial state has its line, and none is False or Undecided; or the run of a made game is settled; or every
+    /// initial state is sure.
     Fine,
     /// Some initial state's line is False, or some initial state is not sure.
     SomeFalse,
-    /// No line is False, and some line is Undecided; or a made game is not settled.
+    /// No line is False, and some line is Undecided; or the run of a made game is not settled.
     SomeUndecided,
     /// The words denote no command.
     Usage,

@@ -1,4 +1,4 @@
--- This file says which refusals are not because memory ran out.
+-- This module says which refusals are not because memory ran out.
 use Rattle.std.specs.Prelude.{◌≡◌, ◌≢◌, false}
 use Rattle.tra_reader.specs.FileEnds.{is_out_of_memory}
 use Rattle.label_lines.specs.declared.faults.LabCause.TheVariants as lab

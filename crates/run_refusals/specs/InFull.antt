@@ -1,4 +1,4 @@
--- This file says when the numbers of a refusal are written in full.
+-- This module says when the numbers of a refusal are written in full.
 use Rattle.std.specs.Prelude.{ℕ, ◌<◌, ◌^◌}
 use Rattle.distributions.specs.declared.choice.ChoiceFault.{ChoiceFault}
 use Rattle.distributions.specs.declared.choice.ChoiceFault.TheVariants as choice

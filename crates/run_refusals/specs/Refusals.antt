@@ -1,4 +1,4 @@
--- This file defines the line that says why a run is refused.
+-- This module defines the line that says why a run is refused.
 use Rattle.std.specs.Prelude.{ℕ, List, ◌∷◌, ◌++◌, codes, decimal}
 use Rattle.fractions.specs.declared.number.NumberFault.{NumberFault}
 use Rattle.fractions.specs.declared.number.NumberFault.TheVariants as number

@@ -1,4 +1,4 @@
-//! This module has laws of the lines of refusals. Each function does nothing: its contract is the law.
+//! This module has the laws of the lines of refusals. Each function does nothing: its contract is the law.
 
 ghost use Rattle.std.specs.Prelude.{◌≡◌};
 ghost use Rattle.run_refusals.specs.declared.refusal.Refusal.{Refusal};

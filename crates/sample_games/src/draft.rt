@@ -32,7 +32,7 @@ pub struct Draft {
 }
 
 impl Draft {
-    /// Begins a game of so many states, of which none is made.
+    /// Begins a game of this many states, of which none is made.
     pub fn new(alloc: Global, states: u32) -> Draft {
         Draft {
             states,
@@ -97,7 +97,7 @@ impl Draft {
         Game::from_choices(alloc, all).ok()
     }
 
-    /// Returns the game if it has so many states.
+    /// Returns the game if it has this many states.
     pub(crate) fn game_with(self, alloc: Global, states: usize) -> Result<Game, Fail>
         ensures { IfOk result (λ game. length game ≡ states) }
     {
@@ -174,7 +174,7 @@ fn choice(alloc: Global, states: u32, edges: &[(u32, u64)]) -> Option<Choice>
     Some(Choice::of_edges(made))
 }
 
-/// Poses the question of these lists, if each has one entry per state and no state is both a goal and dead.
+/// Poses the question of these lists, if each has one entry per state and no state is both goal and dead.
 pub(crate) fn question(
     game: &Game,
     sides: Vec<Side>,
@@ -247,7 +247,7 @@ impl Lists {
     }
 }
 
-// Says whether no state is both a goal and dead.
+// Returns whether no state is both goal and dead.
 fn are_apart(goal: &[bool], dead: &[bool]) -> bool
     requires { length goal.now ≡ length dead.now }
     ensures { OnTrue result ((s : ℕ) → slice_index_or goal.now s false ≡ true

@@ -49,7 +49,7 @@ pub struct Shape {
     pub most_choices: u32,
     pub most_successors: u32,
     pub most_weight: u32,
-    /// At most so many choices of the game may have several successors.
+    /// At most this many choices of the game may have several successors.
     pub most_tosses: u32,
 }
 
@@ -89,7 +89,7 @@ fn add_state(
     Some(left)
 }
 
-// Draws the edges of a choice with at most so many successors.
+// Draws the edges of a choice with at most this many successors.
 fn random_edges(
     alloc: Global,
     draw: &mut Draw,

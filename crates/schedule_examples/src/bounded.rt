@@ -21,7 +21,7 @@ fn the_coin_loop_step_by_step(rt: HostRuntime) -> Result<(), Fail> {
     check_coin_loop(&rt, alloc, &question_of(alloc, &game, Side::Max, 1)?)
 }
 
-/// The coin loop, whose goal is state 1, has these bounds after so many steps.
+/// The coin loop, whose goal is state 1, has these bounds after this many steps.
 fn check_coin_loop<R: Threads + Sync>(
     rt: &R,
     alloc: Global,
@@ -40,7 +40,7 @@ fn check_coin_loop<R: Threads + Sync>(
     Ok(())
 }
 
-/// State 0 of the coin loop has these bounds after so many steps, with any number of workers.
+/// State 0 of the coin loop has these bounds after this many steps, with any number of workers.
 fn check_steps<R: Threads + Sync>(
     rt: &R,
     alloc: Global,
@@ -56,7 +56,7 @@ fn check_steps<R: Threads + Sync>(
     Ok(())
 }
 
-/// State 0 of the coin loop has these bounds with so many workers.
+/// State 0 of the coin loop has these bounds with this many workers.
 fn check_bounds<R: Threads + Sync>(
     rt: &R,
     alloc: Global,
@@ -116,7 +116,7 @@ impl Gate for PairGate {
     }
 }
 
-/// With so many edges one more worker is worth its thread. A chain has one edge for each state.
+/// With this many edges one more worker is worth its thread. A chain has one edge for each state.
 const MANY: u32 = 50_000;
 
 // Makes three steps of two workers over a chain of many states.

@@ -54,7 +54,7 @@ fn the_coin_loop_settles_at_round_50(rt: HostRuntime) -> Result<(), Fail> {
     check_coin_loop(&rt, alloc, &question_of(alloc, &game, Side::Max, 1)?)
 }
 
-/// The coin loop has these values after at most so many rounds.
+/// The coin loop has these values after at most this many rounds.
 fn check_coin_loop<R: Threads + Sync>(
     rt: &R,
     alloc: Global,
@@ -78,7 +78,7 @@ fn check_coin_loop<R: Threads + Sync>(
     Ok(())
 }
 
-/// After at most so many rounds, the coin loop has this base and these bounds at state 0, took these rounds, and has
+/// After at most this many rounds, the coin loop has this base and these bounds at state 0, took these rounds, and has
 /// settled or not.
 fn check_rounds<R: Threads + Sync>(
     rt: &R,

@@ -10,8 +10,8 @@ use std::alloc::Global;
 use std::test::Fail;
 use std::thread::Threads;
 
-// From each state, however both sides play, the play is over within so many steps with a probability of at least one
-// part of so many.
+// From each state, however both sides play, the play is over within this many steps with a probability of at least one
+// part of this many.
 #[derive(Clone, Copy)]
 struct Ending {
     steps: u32,
@@ -27,7 +27,7 @@ fn power(base: u128, exponent: u32) -> Option<u128> {
     Some(found)
 }
 
-// Says whether two bounds are as close as so many rounds promise, or nothing if the numbers do not fit.
+// Returns whether two bounds are as close as this many rounds promise, or nothing if the numbers do not fit.
 fn are_close(ending: Ending, rounds: u32, lower: u64, upper: u64) -> Option<bool> {
     let turns = rounds.checked_div(ending.steps)?;
     let whole = power(ending.parts, turns)?;

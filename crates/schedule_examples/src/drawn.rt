@@ -112,7 +112,7 @@ fn many_states_are_drawn(rt: HostRuntime) -> Result<(), Fail> {
     check_sizes(rt.alloc(), 1, 100_000, (200_100, 600_562))
 }
 
-/// The drawn game has so many states, and so many choices and edges in all.
+/// The drawn game has this many states, and this many choices and edges in all.
 fn check_sizes(alloc: Global, seed: u32, states: u32, wanted: (u64, u64)) -> Result<(), Fail>
     requires seed { (1 ≤ seed) × (seed ≤ most_seed) }
     requires states { (least_states ≤ states) × (states ≤ most_states) }

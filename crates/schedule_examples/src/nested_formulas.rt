@@ -50,7 +50,7 @@ fn owner_of_coins(alloc: Global) -> Result<Owners, Fail>
     Ok(Owners::single(alloc, 3)?)
 }
 
-// Answers a formula about the coin loop by so many rounds of one worker.
+// Answers a formula about the coin loop by this many rounds of one worker.
 fn answer_of<R: Threads + Sync>(
     rt: &R,
     alloc: Global,

@@ -8,7 +8,7 @@ use std::alloc::Global;
 use std::test::Fail;
 use zero_sets::zero_set;
 
-/// If one side chooses between goal and sink, so many states have the value 0, and so many are almost sure.
+/// If one side chooses between goal and sink, this many states have the value 0, and this many are almost sure.
 fn check_choice(alloc: Global, side: Side, zero: u32, sure: u32) -> Result<(), Fail> {
     let game = goal_or_sink(alloc)?;
     let question = question_of(alloc, &game, side, 1)?;

@@ -97,7 +97,7 @@ fn teams_agree_over_drawn<R: Threads + Sync>(
     teams_agree_from_nothing(rt, alloc, &question)
 }
 
-/// A table of so many states is too large to stay near the processor.
+/// A table of this many states is too large to stay near the processor.
 const MANY: u32 = 300_000;
 
 #[test]

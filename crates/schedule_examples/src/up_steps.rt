@@ -25,7 +25,7 @@ use zero_sets::zero_set;
 /// A guess may make at most this many up steps of whole tables.
 const FEW: u64 = 60;
 
-// Counts the up steps of the guess over the base after so many rounds.
+// Counts the up steps of the guess over the base after this many rounds.
 fn up_steps<R: Threads + Sync>(
     rt: &R,
     alloc: Global,
@@ -51,7 +51,7 @@ fn up_steps<R: Threads + Sync>(
     Ok(steps)
 }
 
-// The guess over the base after so many rounds makes so many up steps.
+// The guess over the base after this many rounds makes this many up steps.
 fn makes_up_steps<R: Threads + Sync>(
     rt: &R,
     alloc: Global,
@@ -65,8 +65,8 @@ fn makes_up_steps<R: Threads + Sync>(
     same(rounds, made, count)
 }
 
-// The guess makes exactly so many up steps. At the values of the coin loop it takes two without an excess. After three
-// rounds the first table of the excess that reaches one half is accepted.
+// The guess makes exactly this many up steps. At the values of the coin loop it takes two without an excess. After
+// three rounds the first table of the excess that reaches one half is accepted.
 #[test]
 fn guesses_of_the_coin_loop_make_so_many_up_steps(rt: HostRuntime) -> Result<(), Fail> {
     let alloc = rt.alloc();
@@ -76,7 +76,7 @@ fn guesses_of_the_coin_loop_make_so_many_up_steps(rt: HostRuntime) -> Result<(),
     makes_up_steps(&rt, alloc, &question, 1_000, 2)
 }
 
-// The guess makes few up steps after so many rounds.
+// The guess makes few up steps after this many rounds.
 fn makes_few<R: Threads + Sync>(
     rt: &R,
     alloc: Global,

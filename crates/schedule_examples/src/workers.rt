@@ -111,7 +111,7 @@ fn two_threads_race_over_the_agreement_protocol(rt: HostRuntime) -> Result<(), F
     race_reaches_the_values(&rt, alloc, &question)
 }
 
-// Makes so many rounds of two workers over all states, from the opening table on. It returns the final words.
+// Makes this many rounds of two workers over all states, from the opening table on. It returns the final words.
 fn rounds_over<P: Posing + Send + Sync, R: Threads + Sync>(
     rt: &R,
     alloc: Global,

@@ -1,4 +1,4 @@
--- This file defines the bounds that candidates give when the almost-sure states and the states of value 0 are known.
+-- This module defines the bounds that candidates give when the almost-sure states and the states of value 0 are known.
 use Rattle.std.specs.Prelude.{ℕ, ◌-◌, ◌⊎◌, ◌==◌, Bool, false, List, [], length, slice_index, slice_index_or, min, max}
 use Rattle.std.specs.Prelude.{if◌then◌else◌}
 use Rattle.game_model.specs.Query.{Query, states}
@@ -33,8 +33,8 @@ counted n candidate = if length candidate == n then candidate else []
 abbrev pub HasRankedTable : Query → (ℕ → ℕ) → Type 0
 HasRankedTable q entries = (table : List ℕ) × IsTable q entries table × CanBeRanked q table
 
--- The lower table is that of a candidate if some choices and ranks vouch for it, and else that of an empty candidate:
--- the unit at almost-sure states and 0 elsewhere.
+-- The lower table is that of a candidate if it can be ranked, and else that of an empty candidate: the unit at
+-- almost-sure states and 0 elsewhere.
 abbrev pub IsLowerOf : Query → List Bool → List Bool → List ℕ → List ℕ → Type 0
 IsLowerOf q sure zero candidate lower =
     IsTable q (lower_bound sure zero candidate) lower

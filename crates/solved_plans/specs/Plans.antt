@@ -1,4 +1,4 @@
--- This file says what the bounds of a plan decide.
+-- This module says what the bounds of a plan decide.
 use Rattle.std.specs.Prelude.{◌≡◌, ℕ, ◌<◌, ◌↔◌, slice_index}
 use Rattle.game_model.specs.Query.{Query, states}
 use Rattle.game_model.specs.Values.{numerator}

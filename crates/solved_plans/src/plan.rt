@@ -35,10 +35,10 @@ pub struct Candidates {
 /// upper table, and its choices reach the lower table, less any 1/m, against every strategy of the minimiser. The lower
 /// bound is 1 exactly at the almost-sure states, and the upper one 0 exactly in the zero set.
 ///
-/// Elsewhere the lower table is the candidate's, less than 1, if some choices and ranks vouch for the whole table, and
-/// else 0. The upper table is the candidate's, from one unit to 1, if the whole table is inductive, and else 1. The
-/// choices and ranks are those of `rank_certificate::rank_table`. A state that needs no choice or reply has none. The
-/// only error is that memory ran out.
+/// Elsewhere the lower table is the candidate's, less than 1, if some choices and ranks prove the whole table, and it
+/// is 0 otherwise. The upper table is the candidate's, from one unit to 1, if the whole table is inductive, and it is 1
+/// otherwise. The choices and ranks are those of `rank_certificate::rank_table`. A state that needs no choice or reply
+/// has none. The only error is that memory ran out.
 pub fn hand_out(
     alloc: Global,
     question: &Question,

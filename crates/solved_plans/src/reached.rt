@@ -1,4 +1,4 @@
-//! This module has the lower table, with choices and ranks that vouch for it.
+//! This module has the lower table, with choices and ranks that prove it.
 
 ghost use Rattle.std.specs.Prelude.{◌≡◌, [], length, IfOk};
 ghost use Rattle.game_model.specs.Query.{states};
@@ -18,7 +18,7 @@ use predecessors::Predecessors;
 use rank_certificate::{RankPlan, rank_table_over};
 use std::alloc::Global;
 
-/// A lower table comes with the plan that makes it ranked.
+/// A lower table comes with the plan that proves it.
 #[derive(Drop)]
 pub struct Reached {
     /// This is the table.
@@ -27,8 +27,8 @@ pub struct Reached {
     pub plan: RankPlan,
 }
 
-/// Returns the lower table of a candidate if some choices and ranks vouch for it, and else that of an empty candidate.
-/// The only error is that memory ran out.
+/// Returns the lower table of a candidate if some choices and ranks prove it, and else that of an empty candidate. The
+/// only error is that memory ran out.
 pub fn reached_table(
     alloc: Global,
     question: &Question,
@@ -55,7 +55,7 @@ pub fn reached_table(
     weakest_table(alloc, question, predecessors, sure, zero)
 }
 
-// Returns the lower table of an empty candidate. Choices and ranks vouch for it, because the almost-sure states have a
+// Returns the lower table of an empty candidate. Choices and ranks prove it, because the almost-sure states have a
 // plan.
 fn weakest_table(
     alloc: Global,

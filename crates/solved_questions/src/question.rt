@@ -82,8 +82,8 @@ pub fn solve_question<R: Threads + Sync, G: Gate + Sync>(
         &plan,
         &found.bracket,
     )?;
-    // Rounds vouch for a better lower table. If the checks refused it all the same, the plan would be worse than the
-    // first one.
+    // The ranks of a run of rounds prove a better lower table. If the checks refused it all the same, the plan would be
+    // worse than the first one.
     drop(plan);
     drop(found);
     hand_out(alloc, question, predecessors, &sure, &zero, &better)

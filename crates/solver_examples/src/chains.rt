@@ -11,8 +11,8 @@ use std::alloc::Global;
 use std::num::nearest_usize_to_f64;
 use std::test::Fail;
 
-/// Makes gambler's ruin over so many states between ruin and the goal. Each state goes up and down with probability 1/2
-/// each.
+/// Makes gambler's ruin over this many states between ruin and the goal. Each state goes up and down with probability
+/// 1/2 each.
 pub(crate) fn ruin(alloc: Global, states: u32) -> Result<FloatGame, Fail> {
     let mut draft = Draft::new(alloc, states as usize, states as usize, states as usize)?;
     for state in 0..states {

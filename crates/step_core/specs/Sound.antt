@@ -6,8 +6,8 @@ use Rattle.game_model.specs.Rounded.{down_steps, IsBelow}
 use Rattle.game_model.specs.Ranks.{Ranked}
 use Rattle.step_core.specs.Word.{value_at, values_of, picks_of}
 
--- The values are nowhere above some r-fold down step. Ranks show that their choices reach them: the values are at most
--- the unit, goals have the unit and dead states have 0.
+-- The values are nowhere above some r-fold down step, and ranks show that their choices reach them. So the values are
+-- at most the unit, goals have the unit and dead states have 0.
 pub record AreSoundWords (q : Query) (words : List ℕ) : Type 0 where
   pub as_many : length words ≡ states q
   pub rounds : ℕ

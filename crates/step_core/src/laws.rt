@@ -1,4 +1,4 @@
-//! These are laws of events. Each function does nothing: its contract is the law.
+//! This module has the laws of events. Each function does nothing: its contract is the law.
 
 ghost use Rattle.std.specs.Prelude.{◌≡◌, ℕ, ◌+◌, List, None, ◌↔◌};
 ghost use Rattle.std.specs.List.{sum_by};

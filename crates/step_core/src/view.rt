@@ -44,14 +44,14 @@ impl View {
         }
     }
 
-    /// Says whether the view is live.
+    /// Returns whether the view is live.
     pub fn is_live(&self) -> bool
         ensures { result ≡ is_some self.now }
     {
         self.live
     }
 
-    /// Gives the words that a live view has seen.
+    /// Returns the words that a live view has seen.
     pub fn words(&self) -> &[u64]
         requires { IsSome self.now }
         ensures { result.now ≡ unwrap_or self.now [] }
@@ -68,7 +68,7 @@ impl View {
         self.words[state] = word;
     }
 
-    /// Gives the values that a live view has seen.
+    /// Returns the values that a live view has seen.
     pub fn values(&self, alloc: Global) -> Result<Vec<u64>, OutOfMemory>
         requires { IsSome self.now }
         ensures { IfOk result (λ v. v.items ≡ values_of (unwrap_or self.now [])) }

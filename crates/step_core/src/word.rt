@@ -18,14 +18,14 @@ pub fn pack(value: u64, choice: u32) -> u64
     value * CHOICE_SPACE + u64::from(choice)
 }
 
-/// Gives the value of a word, in units.
+/// Returns the value of a word, in units.
 pub fn value_of(word: u64) -> u64
     ensures { result ≡ value_in word }
 {
     word / CHOICE_SPACE
 }
 
-/// Gives the choice of a word.
+/// Returns the choice of a word.
 pub fn choice_of(word: u64) -> u32
     ensures { result ≡ choice_in word }
 {

@@ -87,7 +87,7 @@ impl<'q> World<'q> {
         }
     }
 
-    /// Gives the word of a state.
+    /// Returns the word of a state.
     pub fn word(&self, state: u32) -> u64
         requires { state < states self.now.question }
         ensures { result ≡ slice_index self.now.words state }
@@ -95,7 +95,7 @@ impl<'q> World<'q> {
         self.words[state as usize]
     }
 
-    /// Gives the word that a view has seen at a state, or none if the view is not live.
+    /// Returns the word that a view has seen at a state, or none if the view is not live.
     pub fn seen(&self, view: u32, state: u32) -> Option<u64>
         requires { state < states self.now.question }
         ensures { result ≡ option_map (λ seen. slice_index seen state) (view_of self.now view) }
@@ -113,7 +113,7 @@ impl<'q> World<'q> {
         let _ = &self.words;
     }
 
-    // Says whether a view is live.
+    // Returns whether a view is live.
     fn is_live(&self, view: u32) -> bool
         ensures { result ≡ is_some (view_of self.now view) }
     {
@@ -172,7 +172,7 @@ impl<'q> World<'q> {
         Ok(())
     }
 
-    // Says whether the choice of a word is out of range at a state.
+    // Returns whether the choice of a word is out of range at a state.
     fn is_bad_choice(&self, state: u32, choice: u32) -> bool
         requires { state < states self.now.question }
         ensures { result ≡ is_bad_choice self.now.question state choice }
@@ -207,8 +207,8 @@ impl<'q> World<'q> {
         Ok(())
     }
 
-    // Gives what a choice gives over what a view has seen. At a state of the minimiser it is the least that any choice
-    // gives.
+    // Returns what a choice gives over what a view has seen. At a state of the minimiser it is the least that any
+    // choice gives.
     fn given(&self, view: u32, state: u32, choice: u32) -> Result<u64, OutOfMemory>
         requires live { IsLive self.now view }
         requires state { state < states self.now.question }

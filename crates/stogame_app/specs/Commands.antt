@@ -97,7 +97,7 @@ IsAcceptedOf held (OfSolve solve) = (problem : Problem)
 IsAcceptedOf held (OfMake make) = Unit {0}
 IsAcceptedOf held (OfSure asked) = (problem : Problem) × Asks Reaching (sources_of held asked) asked problem
 
--- If the command reads files, then the holding is told, and all that the command needs is held and accepted.
+-- If the command reads files, then the holding is known, and all that the command needs is held and accepted.
 abbrev pub IsAcceptedFrom : Option Holding → Command → Type 0
 IsAcceptedFrom holding command = ReadsFiles command
     → (held : Holding) × (holding ≡ Some held) × IsAcceptedOf held command

@@ -27,7 +27,7 @@ use Rattle.stogame_app.specs.Status.{sure_status}
 use Rattle.stogame_app.specs.Commands.{check_paths, solve_paths}
 
 -- The words denote this command. What it asks poses this problem, by this formula, with some texts; if the holding is
--- told, these are the texts that are held. At most `most_bytes` bytes were taken from the last text.
+-- known, these are the texts that are held. At most `most_bytes` bytes were taken from the last text.
 pub record WordsPose (words : List (List ℕ)) (holding : Option Holding) (taken : ℕ) (command : Command) (asked : Asked)
     (paths : Paths) (problem : Problem) (formula : Tree) : Type 0 where
   pub denoted : AreCommand words command
@@ -48,7 +48,7 @@ Solves words holding taken solve problem f =
 -- The text and the status are the report of the command that the words denote.
 pub data IsReportOfWords (words : List (List ℕ)) (holding : Option Holding) (taken : ℕ) (text : List ℕ)
     (status : Status) : Type 0 where
-  -- `check` of `F`, `U` and, by its dual, `G` reports bounds of the k-step values of a question.
+  -- `check` of `F`, `U` and, by its dual, `G` reports bounds of the values of a question.
   of_reach : (check : Check) (p : Posing) (f : Tree) → Checks words holding taken check (OfReach p) f
       → IsBracketReport p.question p.initial f check text status → IsReportOfWords words holding taken text status
   -- `check` of `F<=k` and `U<=k` reports bounds of the values of exactly k steps.

@@ -66,21 +66,21 @@ IsOutput words holding taken text = ((status : Status) × IsReportOfWords words 
 
 -- 2. How a run ends.
 
--- There is such a text, and the output grew by it if the bytes of the output are told.
+-- There is such a text, and the output grew by it if the bytes of the output are known.
 pub record Writes (old new : Option (List ℕ)) (IsText : List ℕ → Type 0) : Type 0 where
   pub text : List ℕ
   pub is : IsText text
   pub grows : GrowsBy old new text
 
--- There is such a text, and the output grew by a front of it if the bytes of the output are told.
+-- There is such a text, and the output grew by a prefix of it if the bytes of the output are known.
 pub record WritesFront (old new : Option (List ℕ)) (IsText : List ℕ → Type 0) : Type 0 where
   pub text : List ℕ
   pub is : IsText text
   pub grows : GrowsByPrefix old new text
 
--- A run with these words ends with this status and turns the first output into the second. It has written a report, a
--- refusal or the usage line; or it ended with a fault of reading or because memory ran out and wrote nothing; or it
--- ended with a fault of writing.
+-- A run with these words ends with this status and turns the first output into the second. Either it has written a
+-- report, a refusal or the usage line. Or it ended with a fault of reading, or because memory ran out, and wrote
+-- nothing. Or it ended with a fault of writing, and wrote a prefix of such a text.
 abbrev pub IsEnding : List (List ℕ) → Option Holding → ℕ → Option (List ℕ) → Option (List ℕ) → Status → Type 0
 IsEnding words holding taken old new Fine = Writes old new (λ text. IsReportOfWords words holding taken text Fine)
 IsEnding words holding taken old new SomeFalse =
@@ -106,7 +106,7 @@ NeedNoFile words = (command : Command) → AreCommand words command → ¬ Reads
 abbrev pub IsReadable : {S : Type 0} → (S → Bool) → (S → ℕ) → List (List ℕ) → S → S → Type 0
 IsReadable steady faults words old new = NeedNoFile words ⊎ ((steady old ≡ true) ⊎ (¬ Rose (faults old) (faults new)))
 
--- The words denote a command and, if the holding is told, a text that the command needs is not held.
+-- The words denote a command and, if the holding is known, a text that the command needs is not held.
 pub record IsMissingOfWords (words : List (List ℕ)) (holding : Option Holding) : Type 0 where
   pub command : Command
   pub denoted : AreCommand words command
@@ -120,7 +120,7 @@ pub record AsksShelf {S : Type 0} (held : S → Option Holding) (steady : S → 
   -- The holding and the steadiness stay the same, and the count of faults does not fall.
   pub kept : KeepsShelf (held old) (held new) (steady old) (steady new) (faults old) (faults new)
   pub taken : (took new ≡ took old) ⊎ (took new ≤ most_bytes + piece_size)
-  -- A fault of reading is answered only if the count rose, and over a steady shelf only if a text is not held.
+  -- A run ends with a fault of reading only if the count rose, and over a steady shelf only if a text is not held.
   pub read_fault : status ≡ ReadFault → Rose (faults old) (faults new)
   pub steadily : status ≡ ReadFault → steady old ≡ true → IsMissingOfWords words (held old)
 

@@ -7,7 +7,7 @@ use Rattle.run_refusals.specs.declared.refusal.Text.TheVariants.{Tra, Lab, Own, 
 use Rattle.run_answers.specs.declared.status.Status.{Status}
 use Rattle.run_answers.specs.declared.status.Status.TheVariants.{Fine, SomeFalse, ModelRefused, CertificateRefused}
 
--- All is well if every initial state is sure.
+-- The status is `Fine` if every initial state is sure, and else `SomeFalse`.
 abbrev pub sure_status : Bool → Status
 sure_status all = if all then Fine else SomeFalse
 

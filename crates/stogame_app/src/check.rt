@@ -1,4 +1,4 @@
-//! This module answers `check` with the bracket of a question, or with exactly so many steps.
+//! This module answers `check` with the bracket of a question, or with exactly as many steps as the formula names.
 
 ghost use Rattle.std.specs.Prelude.{◌≡◌, ◌<◌, ℕ, List, Option, All, IfOk};
 ghost use Rattle.game_outside.specs.Outside.{Holding};

@@ -1,4 +1,4 @@
-//! These are the laws of the run. Each function does nothing; its contract is the law.
+//! This module has the laws of the run. Each function does nothing: its contract is the law.
 //!
 //! - [`closing`]: brackets of questions whose plays come to an end close at a known rate.
 //! - [`horizons`]: printed bounds and verdicts hold of the values within k steps.

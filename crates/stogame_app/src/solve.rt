@@ -1,5 +1,5 @@
-//! This module answers `solve` with bounds that a solver finds, if they pass the checks of an audit, or with exactly so
-//! many steps.
+//! This module answers `solve` with bounds that a solver finds, if they pass the checks of an audit, or with exactly as
+//! many steps as the formula names.
 
 ghost use Rattle.std.specs.Prelude.{◌≡◌, ◌<◌, ◌≤◌, ℕ, List, Ok, Option, All, IfOk, option_map};
 ghost use Rattle.text_lines.specs.Limits.{most_bytes};

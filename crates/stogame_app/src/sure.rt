@@ -43,7 +43,7 @@ fn sure_of_loaded(alloc: Global, loaded: &Loaded, asked: &AskedWords<'_>) -> Res
     })
 }
 
-// All is well if every initial state is sure.
+// The status is `Fine` if every initial state is sure, and else `SomeFalse`.
 fn sure_status(all: bool) -> Status
     ensures status { result ≡ sure_status all }
     ensures answer { IsAnswer result }

@@ -41,7 +41,8 @@ pub record AreClose (q : Query) (lost : List Bool) (r : ℕ) (lower upper : ℕ 
   pub above : (s : ℕ) → s < states q → upper s * denominator q.game ^ r
       ≤ unit * open_numerator q lost r s + r * denominator q.game ^ r
 
--- The upper bound is above the lower one by at most 2 r units and the probability (1 - 1/D^n)^j.
+-- The upper bound is above the lower one by at most 2 r units and the probability (1 - 1/D^n)^j, where D is the
+-- denominator.
 abbrev pub IsWithin : Query → ℕ → ℕ → ℕ → (ℕ → ℕ) → (ℕ → ℕ) → Type 0
 IsWithin q n j r lower upper = (s : ℕ) → s < states q →
     upper s * (denominator q.game ^ n) ^ j

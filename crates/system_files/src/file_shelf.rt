@@ -71,7 +71,7 @@ fn open<R: Files>(rt: &R, name: &str, again: bool) -> Result<R::File, Failure> {
     }
 }
 
-// Says whether a name is that of a regular file, as far as the system tells.
+// Returns whether a name is that of a regular file, as far as the system tells.
 fn is_regular(rt: &impl Files, name: &str) -> bool {
     match fs::metadata(rt, name) {
         Ok(metadata) => metadata.is_file(),

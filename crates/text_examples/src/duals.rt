@@ -19,7 +19,7 @@ const DUALS: &[(&str, &str)] = &[
     ),
 ];
 
-// Says whether a share is at most 1.
+// Returns whether a share is at most 1.
 fn is_part(share: &Frac) -> bool
     ensures { IsTrue result ↔ (share.now.num ≤ share.now.den) }
 {

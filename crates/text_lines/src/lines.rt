@@ -48,7 +48,7 @@ pub fn without_cr(line: &[u8]) -> &[u8]
     }
 }
 
-/// Says whether no line of the text has a field. It stops at the first line that has one.
+/// Returns whether no line of the text has a field. It stops at the first line that has one.
 pub fn only_blank(text: &[u8]) -> bool
     ensures { result ≡ is_nil (significant (lines_of text.now)) }
 {

@@ -23,7 +23,7 @@ pub fn first_line(line: &[u8]) -> Result<Header, TraFault>
     }
 }
 
-/// Gives the fault of a text that has only blank lines.
+/// Returns the fault of a text that has only blank lines.
 pub fn no_header() -> TraFault
     ensures { result ≡ fault_at 1 TraCause.NoHeader }
 {
@@ -33,7 +33,7 @@ pub fn no_header() -> TraFault
     }
 }
 
-/// Gives the fault of a blank line behind the header, before another line.
+/// Returns the fault of a blank line behind the header, before another line.
 pub fn blank_between(number: u32) -> TraFault
     ensures { result ≡ fault_at number TraCause.FieldCount }
 {

@@ -75,7 +75,7 @@ fn read_in_any_order<H: Shelf>(
     read_lines_from(alloc, shelf, name, limit, reader)
 }
 
-// Gives what was read, unless a line was out of order.
+// Returns what was read, unless a line was out of order.
 fn in_order(read: Result<Game, FileEnd<Halt>>) -> Option<Result<Game, FileEnd<TraFault>>>
     ensures { result ≡ in_order_of read }
 {
@@ -106,7 +106,7 @@ fn without_want(read: Result<Game, FileEnd<TraFault>>) -> Result<Game, FileEnd<T
     }
 }
 
-// Says whether memory ran out, for the whole text or for a choice.
+// Returns whether memory ran out, for the whole text or for a choice.
 fn is_out_of_memory(cause: &TraCause) -> bool
     ensures { result ≡ is_out_of_memory cause.now }
 {

@@ -63,14 +63,14 @@ impl GameInOrder {
         })
     }
 
-    /// Gives the place of the choice under way, and 0 before the first transition.
+    /// Returns the place of the choice under way, and 0 before the first transition.
     pub fn place(&self) -> u64
         ensures { result ≡ place_under_way self.now }
     {
         place_at(self.whole.state, self.whole.choice)
     }
 
-    /// Says whether a transition was added.
+    /// Returns whether a transition was added.
     pub fn has_begun(&self) -> bool
         ensures { IsTrue result ↔ (0 < length self.now.parts) }
     {

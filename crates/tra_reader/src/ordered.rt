@@ -149,7 +149,7 @@ impl OrderedRows {
     }
 }
 
-// Says whether an action differs from that of the first line of its choice. The action of a new choice is kept.
+// Returns whether an action differs from that of the first line of its choice. The action of a new choice is kept.
 fn compare(
     game: &GameInOrder,
     kept: &mut Vec<u8>,

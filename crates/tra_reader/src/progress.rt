@@ -113,7 +113,7 @@ fn build(
     Ok(())
 }
 
-// Gives the progress after a choice with this fault.
+// Returns the progress after a choice with this fault.
 fn fault_progress(state: u32, choice: u32, fault: ChoiceFault) -> Progress
     ensures { result ≡ progress_of state choice fault }
 {

@@ -112,7 +112,7 @@ impl WholeChoices {
     }
 }
 
-// Gives the fault if the choices are not as many as stated.
+// Returns the fault if the choices are not as many as stated.
 fn stated_otherwise(stated: Option<u32>, read: u32) -> Option<TraFault>
     ensures { IsAsStated stated read result }
 {

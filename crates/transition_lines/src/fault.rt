@@ -16,7 +16,7 @@ pub enum TraCause {
     BadField,
     /// A line has another number of fields than its kind allows.
     FieldCount,
-    /// A number of the header, or the number of a choice, is above its limit.
+    /// A number of the header is above its limit, or the number of a choice is not below its limit.
     OverLimit,
     /// The header states no state.
     NoStates,
@@ -67,14 +67,14 @@ impl TraFault {
     ghost use Rattle.std.specs.Prelude.{◌≡◌};
     ghost use Rattle.transition_lines.specs.Faults.{fault_at, fault_of_all, fault_of_choice};
 
-    /// Gives a fault of the whole text.
+    /// Returns a fault of the whole text.
     pub fn of_all(cause: TraCause) -> TraFault
         ensures { result ≡ fault_of_all cause }
     {
         TraFault { line: 0, cause }
     }
 
-    /// Gives the fault of a choice, which belongs to the whole text.
+    /// Returns the fault of a choice, which belongs to the whole text.
     pub fn of_choice(state: u32, choice: u32, fault: ChoiceFault) -> TraFault
         ensures { result ≡ fault_of_choice state choice fault }
     {
@@ -88,7 +88,7 @@ impl TraFault {
         }
     }
 
-    /// Gives the fault of a line whose action differs from that of the first line of its choice.
+    /// Returns the fault of a line whose action differs from that of the first line of its choice.
     pub fn of_clash(line: u32, transition: &Transition) -> TraFault
         ensures { result ≡ fault_at line (TraCause.ActionClash transition.now.source transition.now.choice) }
     {

@@ -1,4 +1,4 @@
-//! These are laws of transition texts. Each function does nothing: its contract is the law.
+//! This module has the laws of transition texts. Each function does nothing: its contract is the law.
 
 ghost use Rattle.std.specs.Prelude.{◌≡◌, ◌↔◌, ◌∷◌, ℕ, List, Ok};
 ghost use Rattle.std.specs.List.Sorted.{IsPermutation};

@@ -27,14 +27,14 @@ impl Transition {
     ghost use Rattle.transition_lines.specs.Order.{transition_place};
     ghost use Rattle.transition_lines.specs.Choices.{part_of};
 
-    /// Gives the place of the line's choice in the order of all choices.
+    /// Returns the place of the line's choice in the order of all choices.
     pub fn place(&self) -> u64
         ensures { result ≡ transition_place self.now }
     {
         place_at(self.source, self.choice)
     }
 
-    /// Gives the transition's part of its choice.
+    /// Returns the transition's part of its choice.
     pub fn part(&self) -> Part
         ensures { result ≡ part_of self.now }
     {
@@ -45,7 +45,7 @@ impl Transition {
     }
 }
 
-/// Gives the place of a choice in the order of all choices.
+/// Returns the place of a choice in the order of all choices.
 pub fn place_at(state: u32, choice: u32) -> u64
     ensures { result ≡ place_of state choice }
 {
@@ -116,7 +116,7 @@ fn read_dtmc_line(states: u32, line: &[u8]) -> Result<(Transition, &[u8]), TraCa
     }
 }
 
-// Gives the one field that is left, or no byte if none is left. If more are left, the answer is `None`.
+// Returns the one field that is left, or no byte if none is left. If more are left, the answer is `None`.
 #[inline(always)]
 fn last_field(line: &[u8]) -> Option<&[u8]>
     ensures { IsLastField result (fields_of line.entry.now) }

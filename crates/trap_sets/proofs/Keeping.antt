@@ -96,6 +96,12 @@ module _ (q : Query) (replies : List (Option ℕ)) (part : List ℕ) (h : KeepsE
           ∙ sym (k.named t (ends.inside t in'') (h.kept member listed ends t in''));
     }
 
+-- parts keep end components under other names
+pub KeepsEnds-renamed : (q : Query) (replies : List (Option ℕ)) (part names class : List ℕ) → KeepsEnds q replies part
+    → IsNaming part part names class (states q) → KeepsEnds q replies class
+KeepsEnds-renamed q replies part names class h k = KeepsEnds-named q replies part h part names class
+    (λ s d t ls inner leads. omega (arith, inner.stays t leads)) k
+
 -- each class is named after the least of its states
 pub IsRooted-named : (part component names class : List ℕ) (n : ℕ) → IsNaming part component names class n
     → IsRooted class

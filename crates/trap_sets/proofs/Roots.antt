@@ -1,7 +1,7 @@
 -- How many roots there are.
 use Rattle.std.proofs.Common.{◌≡◌, ◌≢◌, ℕ, zero, suc, ◌+◌, ◌<◌, ◌≤◌, Bool, List, true, false, length, arith, refl, ap, sym, subst}
 use Rattle.std.proofs.Common.{◌-◌, inl, inr}
-use Rattle.std.specs.Prelude.{◌==◌, slice_index}
+use Rattle.std.specs.Prelude.{slice_index}
 use Rattle.std.specs.Bool.{if◌then◌else◌}
 use Rattle.std.proofs.lemmas.Bool.{cases_eq, cases_lt, eq-eqb, ne_eqb}
 use Rattle.trap_sets.specs.inside.Roots.{roots, roots_below}

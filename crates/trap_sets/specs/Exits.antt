@@ -1,4 +1,4 @@
--- This file defines the exits of a set of states, and the best exit over a table.
+-- This module defines the exits of a set of states, and the best exit over a table.
 use Rattle.std.specs.Prelude.{◌≡◌, ℕ, ◌<◌, ◌≤◌, ◌⊎◌, Bool, true, false, List, length, slice_index}
 use Rattle.game_model.specs.declared.game.Side.TheVariants.{Max}
 use Rattle.game_model.specs.Game.{choices_of, choice_of}

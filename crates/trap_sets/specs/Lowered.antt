@@ -1,4 +1,4 @@
--- This file defines upper tables that are lowered to the best exits of traps.
+-- This module defines upper tables that are lowered to the best exits of traps.
 use Rattle.std.specs.Prelude.{◌≡◌, ◌≢◌, ℕ, ◌<◌, ◌≤◌, Bool, true, List, length, min, slice_index, Option}
 use Rattle.game_model.specs.Query.{Query}
 use Rattle.trap_sets.specs.Ends.{IsTrap, AreTraps, numbered}

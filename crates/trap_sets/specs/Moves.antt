@@ -1,4 +1,4 @@
--- This file defines the moves of a question whose minimiser plays its replies.
+-- This module defines the moves of a question whose minimiser plays its replies.
 use Rattle.std.specs.Prelude.{◌≡◌, ℕ, zero, suc, ◌<◌, List, length, slice_index_or, Option, Some, None, Contains}
 use Rattle.game_model.specs.declared.game.Side.TheVariants.{Min}
 use Rattle.game_model.specs.Game.{choices_of, choice_of, destinations}

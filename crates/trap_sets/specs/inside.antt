@@ -1,4 +1,4 @@
--- The loops and private functions of the crate use these definitions. No clause of a public function unfolds to them.
+-- The crate's own loops and private functions use these definitions: no clause of a public function unfolds to them.
 pub mod Parts
 pub mod Settled
 pub mod Breaking

@@ -7,7 +7,7 @@ ghost use Rattle.trap_sets.specs.inside.Parts.{Stays, Leaves};
 
 use game_model::Question;
 
-/// Returns whether each successor of a choice has the number of its state.
+/// Returns whether each successor of a choice has the same number as the state of the choice.
 pub fn stays(question: &Question, of: &[u32], state: u32, choice: u32) -> bool
     requires state { state < states question.now }
     requires choice { choice < length (choices_of question.now.game state) }

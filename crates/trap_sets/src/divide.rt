@@ -36,6 +36,31 @@ fn classes(alloc: Global, inner: &Inner<'_>) -> Result<Vec<u32>, OutOfMemory>
     Ok(class)
 }
 
+/// Names each part after its first state. Removal may have taken the state after which it was named.
+pub fn renamed(alloc: Global, cut: &Cut<'_>, part: &[u32]) -> Result<Vec<u32>, OutOfMemory>
+    requires keeps { KeepsEndsOf cut.now part.now }
+    ensures keeps { IfOk result (λ class. KeepsEndsOf cut.now class.items) }
+    ensures rooted { IfOk result (λ class. IsRooted class.items) }
+{
+    let _ = cut;
+    let greatest = greatest_of(part);
+    let mut names = vec![in alloc; 0u32; greatest as usize + 1]?;
+    let mut class = Vec::new(alloc);
+    name_all(part, part, &mut names, &mut class)?;
+    Ok(class)
+}
+
+/// Returns the greatest number of a list, or 0 if the list is empty.
+fn greatest_of(part: &[u32]) -> u32
+    ensures { (s : ℕ) → s < length part.now → slice_index part.now s ≤ result }
+{
+    let mut greatest: u32 = 0;
+    for place in 0..part.len() {
+        greatest = greatest.max(part[place]);
+    }
+    greatest
+}
+
 /// Gives each state that has a part the name of its component.
 fn name_all(
     component: &[u32],

@@ -18,8 +18,10 @@
 //! The traps are found in rounds, over parts of the states. The first part has all states that are neither goal nor
 //! dead. A choice is inner if all its successors are in the part of its state. A round takes three steps:
 //!
-//! 1. It takes their part from the states that have no inner choice, and from those that have none left then.
-//! 2. It divides each part into the strongly connected components of its inner choices (`components`).
+//! 1. Every second round, it divides each part into the strongly connected components of its inner choices
+//!    (`components`). Most often the third step breaks off a few states, and their removal is all that is left to do.
+//! 2. It takes their part from the states that have no inner choice, and from those that have none left then. This is
+//!    done once before the first round, too.
 //! 3. It searches from the root of each part, by the choices that are inner then, back and on. If one of the searches
 //!    misses a state of the part, the part is broken up there, and another round follows (Fleischer, Hendrickson and
 //!    Pinar, On identifying strongly connected components in parallel, 2000).

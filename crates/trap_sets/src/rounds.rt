@@ -8,7 +8,7 @@ ghost use Rattle.trap_sets.specs.inside.Parts.{IsRooted};
 
 use crate::breaking::break_up;
 use crate::cut::Cut;
-use crate::divide::divided;
+use crate::divide::{divided, renamed};
 use crate::trim::trim;
 use game_model::Question;
 use game_outside::OutOfMemory;
@@ -20,14 +20,18 @@ pub fn settled_parts(alloc: Global, cut: &Cut<'_>) -> Result<Vec<u32>, OutOfMemo
     ensures { IfOk result (λ part. AreSettledOf cut.now part.items) }
 {
     let mut part = opening(alloc, cut)?;
-    for _ in 0..cut.question.game().states() {
+    trim(alloc, cut, &mut part)?;
+    for round in 0..cut.question.game().states() {
+        if round % 2 == 0 {
+            part = divided(alloc, cut, &part)?;
+        }
         trim(alloc, cut, &mut part)?;
-        part = divided(alloc, cut, &part)?;
+        part = renamed(alloc, cut, &part)?;
         if !break_up(alloc, cut, &mut part)? {
             return without_exits(alloc, cut, &part);
         }
     }
-    part = divided(alloc, cut, &part)?;
+    part = renamed(alloc, cut, &part)?;
     break_all(alloc, cut, &mut part)?;
     without_exits(alloc, cut, &part)
 }

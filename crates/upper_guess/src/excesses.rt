@@ -6,7 +6,7 @@ ghost use Rattle.upper_guess.specs.Guess.{excess, last_place};
 /// This is the place of the last excess.
 pub const LAST_PLACE: u32 = 51;
 
-/// Gives the excess at a place: 0, 1, 2, 4, and so on.
+/// Returns the excess at a place: 0, 1, 2, 4, and so on.
 pub fn excess_at(place: u32) -> u64
     requires { place ≤ last_place }
     ensures value { result ≡ excess place }

@@ -32,9 +32,9 @@ impl Guesses<'_> {
     ghost use Rattle.upper_guess.specs.Guess.{AreWitnesses};
     ghost use Rattle.upper_guess.specs.inside.OfGuesses.{first_entry_of, IsTableOf, AreRefusedOf, IsFirstOf, steps_of};
 
-    /// Gives the first of the tables of this excess that is accepted, or none if each is refused. A table that is seen
-    /// to be refused at the witness of its steps is not made. If a table is made and refused, the state that rises most
-    /// from it becomes the witness.
+    /// Returns the first of the tables of this excess that is accepted, or none if each is refused. A table that is
+    /// seen to be refused at the witness of its steps is not made. If a table is made and refused, the state that rises
+    /// most from it becomes the witness.
     pub fn first_accepted<M: UpTables>(
         &self,
         maker: &M,
@@ -64,7 +64,7 @@ impl Guesses<'_> {
         Ok(None)
     }
 
-    /// Gives the table after `steps` up steps, from one that was made, if any, after no more steps.
+    /// Returns the table after `steps` up steps, from one that was made, if any, after no more steps.
     fn table_after<M: UpTables>(
         &self,
         maker: &M,
@@ -86,7 +86,7 @@ impl Guesses<'_> {
         Ok(table)
     }
 
-    /// Gives the table before any up step.
+    /// Returns the table before any up step.
     fn first_table(&self, alloc: Global) -> Result<Vec<u64>, OutOfMemory>
         ensures { IfOk result (λ table. IsTableOf self.now 0 table.items) }
     {
@@ -98,7 +98,7 @@ impl Guesses<'_> {
         Ok(table)
     }
 
-    /// Gives the entry of that table at a state.
+    /// Returns the entry of that table at a state.
     pub fn first_entry(&self, state: u32) -> u64
         requires { state < states self.now.question.now }
         ensures value { result ≡ first_entry_of self.now state }
@@ -113,7 +113,7 @@ impl Guesses<'_> {
         UNIT.min(self.lower[state as usize] + self.excess)
     }
 
-    /// Gives the up steps of the table that was made, if any.
+    /// Returns the up steps of the table that was made, if any.
     fn steps_made(made: &Option<(Vec<u64>, u32)>) -> u32
         ensures { result ≡ steps_of made.now }
     {

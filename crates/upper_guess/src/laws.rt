@@ -1,4 +1,4 @@
-//! These are laws of the guesses. Each function does nothing: its contract is the law.
+//! This module has the laws of the guesses. Each function does nothing: its contract is the law.
 
 ghost use Rattle.std.specs.Prelude.{◌≡◌, ℕ, ◌+◌, ◌^◌, ◌<◌, List, Bool};
 ghost use Rattle.game_model.specs.Query.{Query};

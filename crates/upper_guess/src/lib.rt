@@ -2,7 +2,7 @@
 //! Optimistic value iteration, CAV 2020).
 //!
 //! [`guess`] tries tables one after another, by rising excess over the lower table and then by up steps, and gives the
-//! first whose own up step is nowhere above it. Such a table is inductive, so no value of k steps is above it. The last
+//! first whose own up step is nowhere above it. Such a table is inductive, so no k-step value is above it. The last
 //! excess is above the unit, and its first table is always accepted: some table is found for every lower table.
 //!
 //! A table is made only if it is not seen to be refused at one state: the one that rose most from the last table of as
@@ -39,7 +39,7 @@ use std::alloc::Global;
 pub use tables::{Alone, UpTables};
 pub use witnesses::Witnesses;
 
-/// Gives the first guess that is accepted: by excess and then by up steps the first table whose up step is nowhere
+/// Returns the first guess that is accepted: by excess and then by up steps the first table whose up step is nowhere
 /// above it. The only error is that memory ran out.
 pub fn guess<'a>(
     alloc: Global,
@@ -67,8 +67,8 @@ pub fn guess<'a>(
     )
 }
 
-/// Gives the same guess, from tables that this maker makes. The states that refused the last guess of this question are
-/// looked at first, and those that refuse this guess take their places.
+/// Returns the same guess, from tables that this maker makes. The states that refused the last guess of this question
+/// are looked at first, and those that refuse this guess take their places.
 pub fn guess_with<'a, M: UpTables>(
     maker: &M,
     alloc: Global,

@@ -12,13 +12,13 @@ use crate::guesses::Guesses;
 use fixed_bellman::Quotient;
 use game_model::{Side, UNIT};
 
-/// If the question has fewer states than this, a test at one state may look into as many as this, but into no more than
-/// twice as many as the up steps of the table would: a table would also have to be allocated.
+/// If the question has fewer states than this, a test at one state may look into as many states as this. But it looks
+/// into no more than twice as many as the up steps of the table would, because a table would also have to be allocated.
 const LEAST_BUDGET: u32 = 1_000;
 
 impl Guesses<'_> {
-    /// Says whether a table is seen to be refused at this state, when a table after `made` up steps is at hand. It is
-    /// not seen if the recursion would look into more states than the question has and, if these are few, into more
+    /// Returns whether a table is seen to be refused at this state, when a table after `made` up steps is at hand. It
+    /// is not seen if the recursion would look into more states than the question has and, if these are few, into more
     /// than twice as many as the up steps from that table on: then the table costs no more.
     pub fn refuses_at(&self, steps: u32, state: u32, made: u32) -> bool
         requires steps { steps ≤ most_steps }
@@ -38,7 +38,7 @@ impl Guesses<'_> {
         entry < raised
     }
 
-    /// Gives the entry at a state after `steps` up steps, if the budget suffices.
+    /// Returns the entry at a state after `steps` up steps, if the budget suffices.
     #[cycle(local)]
     fn entry(&self, steps: u32, state: u32, budget: &mut u32) -> Option<u64>
         requires { state < states self.now.question.now }
@@ -60,7 +60,7 @@ impl Guesses<'_> {
         self.best(steps - 1, state, budget)
     }
 
-    /// Gives the up value of the best choice of a state.
+    /// Returns the up value of the best choice of a state.
     #[cycle(local)]
     fn best(&self, steps: u32, state: u32, budget: &mut u32) -> Option<u64>
         requires { state < states self.now.question.now }
@@ -75,7 +75,7 @@ impl Guesses<'_> {
         Some(best)
     }
 
-    /// Gives the up value of a choice.
+    /// Returns the up value of a choice.
     #[cycle(local)]
     fn value(&self, steps: u32, state: u32, choice: u32, budget: &mut u32) -> Option<u64>
         requires state { state < states self.now.question.now }
@@ -87,7 +87,7 @@ impl Guesses<'_> {
         Some(Quotient::new(sum, total).up())
     }
 
-    /// Gives the sum of weight times entry of the successor.
+    /// Returns the sum of weight times entry of the successor.
     #[cycle(local)]
     fn sum(&self, steps: u32, state: u32, choice: u32, budget: &mut u32) -> Option<u128>
         requires state { state < states self.now.question.now }
@@ -105,7 +105,7 @@ impl Guesses<'_> {
     }
 }
 
-/// Gives the better of two values for a side.
+/// Returns the better of two values for a side.
 fn better(side: Side, one: u64, other: u64) -> u64
     ensures { result ≡ better side one other }
 {

@@ -46,7 +46,7 @@ fn look_ahead(question: &Question, table: &[u64], from: u32, to: u32) -> bool
     game.states() > MOST_NEAR && has_excess(table, game.successors_between(from, to))
 }
 
-/// Says whether an entry of these states is above the unit.
+/// Returns whether an entry of these states is above the unit.
 fn has_excess(table: &[u64], wanted: &[u32]) -> bool
     requires inside { All (λ s. s < length table.now) wanted.now }
     requires units { All (λ v. v ≤ unit) table.now }

@@ -39,7 +39,7 @@ impl UpTables for Alone {
     }
 }
 
-/// Gives the up step of a table, filled by this maker.
+/// Returns the up step of a table, filled by this maker.
 pub fn up_table<M: UpTables>(
     maker: &M,
     alloc: Global,
@@ -56,7 +56,7 @@ pub fn up_table<M: UpTables>(
     Ok(next)
 }
 
-/// Gives the state that rises most from one table to the next, or none if no state rises.
+/// Returns the state that rises most from one table to the next, or none if no state rises.
 pub fn most_raised(question: &Question, table: &[u64], next: &[u64]) -> Option<u32>
     requires table { length table.now ≡ states question.now }
     requires next { length next.now ≡ states question.now }

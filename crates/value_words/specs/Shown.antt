@@ -10,7 +10,7 @@ use Rattle.step_core.specs.Configuration.{Configuration}
 use Rattle.step_core.specs.Events.{Lawful, after, wins}
 use Rattle.value_words.specs.declared.rule.Sight.{Sight}
 
--- This is the words of a table, and what every pass has seen.
+-- These are the words of a table, and what every pass has seen.
 abbrev pub Shared : Type 0
 Shared = State (Unit {0}) Sight
 

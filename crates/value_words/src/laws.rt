@@ -1,5 +1,5 @@
-//! These are laws of the shared words: each step of a table is an event of the core `step_core`. Each function does
-//! nothing: its contract is the law.
+//! This module has the laws of the shared words: each step of a table is an event of the core `step_core`. Each
+//! function does nothing: its contract is the law.
 
 ghost use Rattle.std.specs.Prelude.{◌≡◌, ◌≢◌, ℕ, ◌<◌, List, slice_index};
 ghost use mathlib.Core.Option.{none};

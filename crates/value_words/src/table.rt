@@ -52,7 +52,7 @@ impl Model for Words {
 }
 
 impl Words {
-    /// Gives the words, by state.
+    /// Returns the words, by state.
     pub fn as_slice(&self) -> &[u64]
         ensures { result.now ≡ self.now }
     {
@@ -65,7 +65,7 @@ impl<'q, P: Posing> ValueTable<'q, P> {
     ghost use Rattle.value_words.specs.Rule.{all_parts, other_half};
     ghost use Rattle.value_words.specs.Steps.{IsOffer};
 
-    /// Gives the opening words, and the one pass that has seen them.
+    /// Returns the opening words, and the one pass that has seen them.
     pub fn start(
         alloc: Global,
         question: &'q Question<'q>,
@@ -92,15 +92,15 @@ impl<'q, P: Posing> ValueTable<'q, P> {
         }
     }
 
-    /// Gives the question.
+    /// Returns the question.
     pub fn question(&self) -> &'q Question<'q>
         ensures { result.now ≡ P.posed }
     {
         self.question
     }
 
-    /// Raises the word of a state to its step over the words, if that is greater. Says whether an exchange of this call
-    /// won.
+    /// Raises the word of a state to its step over the words, if that is greater. Returns whether an exchange of this
+    /// call won.
     pub fn update(&self, pass: &mut Pass<P>, state: u32) -> bool
         requires pass { IsOf self.now pass.old }
         requires state { state < states P.posed }
@@ -149,8 +149,8 @@ impl<'q, P: Posing> ValueTable<'q, P> {
         }
     }
 
-    /// Gives a second pass, which has seen the same and has won nothing. Each of the two has about half of the parts; a
-    /// single part is lost.
+    /// Returns a second pass, which has seen the same and has won nothing. Each of the two has about half of the parts;
+    /// a single part is lost.
     pub fn split(&self, pass: &mut Pass<P>) -> Pass<P>
         requires { IsOf self.now pass.old }
         ensures grew { Grew pass.old pass.new }
@@ -181,7 +181,7 @@ impl<'q, P: Posing> ValueTable<'q, P> {
         self.table.shared.join_seat::<Sharing>(&mut pass.seat, seat);
     }
 
-    /// Gives the final words. Each is the one that the pass has seen, or has a greater value.
+    /// Returns the final words. Each is the one that the pass has seen, or has a greater value.
     pub fn close(self, alloc: Global, pass: Pass<P>) -> Result<Words, OutOfMemory>
         requires { IsOf self pass }
         ensures words { IfOk result (λ words. AreSoundWords P.posed words) }
@@ -202,7 +202,7 @@ impl<'q, P: Posing> ValueTable<'q, P> {
         Ok(Words { words: words? })
     }
 
-    // Gives the word of a state.
+    // Returns the word of a state.
     fn load(&self, pass: &mut Pass<P>, state: u32) -> u64
         requires pass { IsOf self.now pass.old }
         requires state { state < states P.posed }
@@ -245,7 +245,7 @@ impl<'q, P: Posing> ValueTable<'q, P> {
             .compare_exchange::<Exchanging>(&mut pass.seat, state as usize, from, to)
     }
 
-    // Tries to exchange the word until it has at least this value. Says whether an exchange won.
+    // Tries to exchange the word until it has at least this value. Returns whether an exchange won.
     fn exchange_up(&self, pass: &mut Pass<P>, state: u32, to: u64) -> bool
         requires pass { IsOf self.now pass.old }
         requires state { state < states P.posed }
@@ -268,7 +268,7 @@ impl<'q, P: Posing> ValueTable<'q, P> {
         false
     }
 
-    // Does `update` at a state that is neither a goal nor dead.
+    // Does `update` at a state that is neither goal nor dead.
     fn raise(&self, pass: &mut Pass<P>, state: u32) -> bool
         requires pass { IsOf self.now pass.old }
         requires state { state < states P.posed }
@@ -328,7 +328,7 @@ impl<'q, P: Posing> Values for ValueTable<'q, P> {
     ghost units = { λ _ a s k. a.units s k.1 };
 }
 
-// Gives the words that a closed table holds.
+// Returns the words that a closed table holds.
 fn words_of(alloc: Global, closed: &Closed<(), Global>) -> Result<Vec<u64>, OutOfMemory>
     requires { IsFull closed.now.words }
     ensures { IfOk result (λ words. words.items ≡ slots_items closed.now.words) }

@@ -37,7 +37,7 @@ impl ValuesEnd {
     ghost use Rattle.values_reader.specs.declared.fault.ValuesEnd.TheVariants.{Refused};
     ghost use Rattle.values_reader.specs.Faults.{fault_at};
 
-    /// Gives the end that the line of this number has a fault.
+    /// Returns the end that the line of this number has a fault.
     pub(crate) fn at(line: u32, cause: ValuesCause) -> ValuesEnd
         ensures { result ≡ Refused (fault_at line cause) }
     {

@@ -53,7 +53,7 @@ fn only_state(bytes: &[u8]) -> Option<u64>
     whole(unbracketed(field))
 }
 
-// Says whether the last field ends in `)`. `first` is the field before `rest`.
+// Returns whether the last field ends in `)`. `first` is the field before `rest`.
 fn closed(first: &[u8], rest: &[u8]) -> bool
     ensures { result ≡ is_closed (first.now ∷ fields_of rest.now) }
 {
@@ -66,7 +66,7 @@ fn closed(first: &[u8], rest: &[u8]) -> bool
     matches!(last, [.., b')'])
 }
 
-// Says whether some bytes are only a valuation in brackets.
+// Returns whether some bytes are only a valuation in brackets.
 fn valuation(bytes: &[u8]) -> bool
     ensures { result ≡ is_valuation (fields_of bytes.now) }
 {

@@ -6,8 +6,8 @@ ghost use Rattle.values_reader.specs.Faults.{counted};
 
 use text_lines::{first_field, first_line};
 
-/// Gives the next line that is not blank, with its number, and the text behind it. The first line of the text has this
-/// number.
+/// Returns the next line that is not blank, with its number, and the text behind it. The first line of the text has
+/// this number.
 pub fn next_line(text: &[u8], number: u32) -> Option<(u32, &[u8], &[u8])>
     requires { number + length text.now < 2 ^ 32 }
     ensures line { MatchOption result (counted number (lines_of text.now) ≡ [])

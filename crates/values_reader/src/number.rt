@@ -7,12 +7,12 @@ ghost use Rattle.values_reader.specs.Values.{IsProbability};
 
 use text_lines::{first_field, split_at_first, whole};
 
-// Gives the float that the digits write.
+// Returns the float that the digits write.
 fn float_of(digits: &[u8]) -> f64 {
     fast_float::parse(digits).unwrap_or(0.0)
 }
 
-// Gives the quotient of two whole numbers with `/` between them.
+// Returns the quotient of two whole numbers with `/` between them.
 fn fraction(field: &[u8]) -> Option<f64>
     ensures { is_some result ≡ is_fraction field.now }
 {
@@ -25,7 +25,7 @@ fn fraction(field: &[u8]) -> Option<f64>
     Some(float_of(front) / float_of(back))
 }
 
-// Gives the number that a field spells.
+// Returns the number that a field spells.
 fn number(field: &[u8]) -> Option<f64>
     ensures { is_some result ≡ is_number field.now }
 {
@@ -35,7 +35,7 @@ fn number(field: &[u8]) -> Option<f64>
     }
 }
 
-// Gives a value from 0 to 1: what is above counts as 1, and what is below, or no number, as 0.
+// Returns a value from 0 to 1: what is above counts as 1, and what is below, or no number, as 0.
 fn bounded(value: f64) -> f64
     ensures { IsProbability result }
 {
@@ -48,7 +48,7 @@ fn bounded(value: f64) -> f64
     }
 }
 
-/// Gives the number that is the one field of some bytes, as a value from 0 to 1.
+/// Returns the number that is the one field of some bytes, as a value from 0 to 1.
 pub fn value_in(bytes: &[u8]) -> Option<f64>
     ensures spelled { is_some result ≡ is_value bytes.now }
     ensures bounds { IfSome result IsProbability }

@@ -1,4 +1,4 @@
--- A verdict may be about a probability that is a fraction.
+-- This module defines when a verdict on a probability that is a fraction is right.
 use Rattle.std.specs.Prelude.{ℕ}
 use Rattle.formula_reader.specs.declared.formula.Bound.{Bound}
 use Rattle.rpatl_syntax.specs.Dual.{IsMetBy}

@@ -1,4 +1,4 @@
--- Bounds of a value may leave a threshold open.
+-- This module defines when bounds of a value leave a threshold open.
 use Rattle.std.specs.Prelude.{ℕ, ◌+◌, ◌-◌, ◌*◌, ◌^◌, ◌<◌, ◌≤◌, Bool, List}
 use Rattle.game_model.specs.Limits.{unit}
 use Rattle.game_model.specs.Query.{Query}
@@ -35,7 +35,7 @@ LeavesOpen (Below p) n m d r = IsBelowLess p n d r × IsAtLeastMore p m d r
 LeavesOpen AskMax n m d r = ⊥
 LeavesOpen AskMin n m d r = ⊥
 
--- A lower and an upper bound, in units, leave the threshold open at a state. So do so many down steps of the question
+-- A lower and an upper bound, in units, leave the threshold open at a state. So do this many down steps of the question
 -- and of the swapped question, and so do the values of as many steps, with a unit for each step.
 pub record IsLeftOpen (q : Query) (zero : List Bool) (bound : Bound) (steps : ℕ) (lower upper : ℕ → ℕ)
     (s : ℕ) : Type 0 where
@@ -44,8 +44,8 @@ pub record IsLeftOpen (q : Query) (zero : List Bool) (bound : Bound) (steps : �
   pub near : LeavesOpen bound (unit * numerator q steps s) (unit * open_numerator q zero steps s)
       (denominator q.game ^ steps) steps
 
--- A lower and an upper bound, in units, leave the threshold open. So does the value n/d of exactly so many steps, with
--- a unit for each step.
+-- A lower and an upper bound, in units, leave the threshold open. So does the value n/d of exactly this many steps,
+-- with a unit for each step.
 pub record IsLeftOpenBy (bound : Bound) (steps n d lower upper : ℕ) : Type 0 where
   pub printed : LeavesOpen bound lower upper 1 0
   pub near : LeavesOpen bound (unit * n) (unit * n) d steps

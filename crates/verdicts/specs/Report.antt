@@ -1,4 +1,4 @@
--- A report has lines.
+-- This module defines the text of a report, line by line.
 use Rattle.std.specs.Prelude.{ℕ, List, [], ◌∷◌, ◌++◌, ◌≤◌, ◌<◌, ◌^◌, codes, decimal}
 use Rattle.game_model.specs.Limits.{unit}
 use Rattle.plan_text.specs.Fixed.{fixed}
@@ -32,7 +32,7 @@ verdict_text No = codes "False"
 verdict_text Undecided = codes "Undecided"
 verdict_text Bracket = codes "Bracket"
 
--- The bounds of a line come from so many rounds or steps, a certificate, or the tables of a solver.
+-- The bounds of a line come from this many rounds or steps, a certificate, or the tables of a solver.
 abbrev pub how_text : How → List ℕ
 how_text (Rounds rounds) = codes " rounds " ++ decimal rounds
 how_text (Steps steps) = codes " steps " ++ decimal steps

@@ -1,4 +1,4 @@
--- A closure says whether a bound is settled.
+-- This module defines the closures that say whether a bound is settled.
 use Rattle.std.specs.Prelude.{◌≡◌, ◌≤◌, ℕ, Bool}
 use Rattle.std.specs.Fn.{Shared}
 use Rattle.game_model.specs.Limits.{unit}
@@ -17,7 +17,7 @@ pub record IsRuleOf {F : Type 0} (calls : Calls F) (bound : Bound) (rule : F) : 
       → calls.post rule (lower, (upper, tt)) answer
       → answer ≡ is_settling (verdict_of bound lower upper)
 
--- A rule has a bound.
+-- A rule is about this bound.
 abbrev pub bound_of : {F : Type 0} → StopRule F → Bound
 bound_of stop = stop.bound
 

@@ -1,4 +1,4 @@
--- A bound on the value of a state is true or false.
+-- This module defines when a bound on the value of a state is true, and when it is false.
 use Rattle.std.specs.Prelude.{ℕ}
 use Rattle.game_model.specs.Query.{Query}
 use Rattle.game_model.specs.Bounds.{Reaches, Exceeds}
@@ -17,7 +17,8 @@ IsTrueOf q AskMax s = Unit {0}
 IsTrueOf q AskMin s = Unit {0}
 
 -- The bound is false of the value at a state. For `>= p` the k-step values do not come as near to p as one likes. For
--- `> p` none is above p. For `<= p` some k-step value is above p. For `< p` they come as near to p as one likes.
+-- `> p` none is above p. For `<= p` some k-step value is above p. For `< p` they come as near to p as one likes. A
+-- bound that asks for a value is false of none.
 abbrev pub IsFalseOf : Query → Bound → ℕ → Type 0
 IsFalseOf q (AtLeast p) s = ¬ Reaches q p.num p.den s
 IsFalseOf q (Above p) s = ¬ Exceeds q p.num p.den s

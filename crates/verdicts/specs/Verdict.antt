@@ -7,11 +7,11 @@ use Rattle.formula_reader.specs.declared.formula.Bound.TheVariants.{AtLeast, Abo
 use Rattle.verdicts.specs.declared.verdict.Verdict.{Verdict}
 use Rattle.verdicts.specs.declared.verdict.Verdict.TheVariants.{Yes, No, Undecided, Bracket}
 
--- So many units are at least p.
+-- This many units are at least p.
 abbrev pub reaches : Fraction → ℕ → Bool
 reaches p units = nat_le (p.num * unit) (units * p.den)
 
--- So many units are above p.
+-- This many units are above p.
 abbrev pub exceeds : Fraction → ℕ → Bool
 exceeds p units = nat_lt (p.num * unit) (units * p.den)
 

@@ -1,4 +1,4 @@
-//! These are laws of verdicts and reports. Each function does nothing of its own; its contract is the law.
+//! This module has the laws of verdicts and reports. Each function does nothing of its own: its contract is the law.
 
 ghost use Rattle.std.specs.Prelude.{◌≡◌, ◌<◌, ◌≤◌, ◌+◌, ◌-◌, ◌*◌, ℕ, true, List, All, Option};
 ghost use Rattle.game_model.specs.Query.{Query, IsQuery, states};

@@ -12,9 +12,9 @@ use std::alloc::Global;
 /// The bounds of a line come from one of these.
 #[derive(Clone, Copy, Debug, PartialEq, Eq)]
 pub enum How {
-    /// So many rounds of value iteration were completed.
+    /// This many rounds of value iteration were completed.
     Rounds(u32),
-    /// The bounds are those of so many steps: as many as the formula names, and one for `X`.
+    /// The bounds are those of this many steps: as many as the formula names, and one for `X`.
     Steps(u32),
     /// A certificate was checked.
     Audited,
@@ -73,7 +73,7 @@ impl How {
 impl Verdict {
     ghost use Rattle.verdicts.specs.Report.{verdict_text, ending};
 
-    /// Gives the printed word.
+    /// Returns the printed word.
     fn name(self) -> &'static [u8]
         ensures { result.now ≡ verdict_text self }
     {
@@ -102,7 +102,7 @@ fn append_value(text: &mut Vec<u8>, label: &[u8], units: u64) -> Result<(), OutO
     append_fixed(text, units)
 }
 
-/// Gives the report of these lines, in their order. Each bound is at most the unit.
+/// Returns the report of these lines, in their order. Each bound is at most the unit.
 pub fn report_text(alloc: Global, lines: &[ReportLine]) -> Result<Vec<u8>, OutOfMemory>
     requires { All HasValues lines.now }
     ensures { IfOk result (λ text. text.items ≡ report lines.now) }

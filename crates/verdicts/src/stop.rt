@@ -1,4 +1,4 @@
-//! A run may stop when its bound is settled.
+//! This module has the rule by which a run may stop when its bound is settled.
 
 ghost use Rattle.std.specs.Prelude.{◌≡◌, ◌≤◌, not};
 ghost use Rattle.game_model.specs.Limits.{unit};
@@ -28,7 +28,7 @@ impl<F: Fn(u64, u64) -> bool> StopRule<F> {
         StopRule { bound, rule }
     }
 
-    /// Says whether these bounds of a value settle the bound.
+    /// Returns whether these bounds of a value settle the bound.
     pub fn asks(&self, lower: u64, upper: u64) -> bool
         requires kept { IsStopRule F.Fn self.now }
         requires lower { lower ≤ unit }
@@ -38,7 +38,7 @@ impl<F: Fn(u64, u64) -> bool> StopRule<F> {
         (self.rule)(lower, upper)
     }
 
-    /// Says whether some values may settle the bound: it is a threshold, and does not ask for a value.
+    /// Returns whether some values may settle the bound: it is a threshold, and does not ask for a value.
     pub fn may_settle(&self) -> bool
         ensures { result ≡ not (is_asking (bound_of self.now)) }
     {
@@ -48,7 +48,7 @@ impl<F: Fn(u64, u64) -> bool> StopRule<F> {
         }
     }
 
-    /// Gives the bound.
+    /// Returns the bound.
     pub fn bound(&self) -> Bound
         ensures { result ≡ bound_of self.now }
     {

@@ -24,28 +24,28 @@ pub enum Verdict {
 impl Verdict {
     ghost use Rattle.verdicts.specs.Verdict.{is_yes, is_no, is_undecided, is_settling};
 
-    /// Says whether the bound holds.
+    /// Returns whether the bound holds.
     pub fn is_yes(self) -> bool
         ensures { result ≡ is_yes self }
     {
         matches!(self, Verdict::Yes)
     }
 
-    /// Says whether the bound fails.
+    /// Returns whether the bound fails.
     pub fn is_no(self) -> bool
         ensures { result ≡ is_no self }
     {
         matches!(self, Verdict::No)
     }
 
-    /// Says whether a threshold is left open.
+    /// Returns whether a threshold is left open.
     pub fn is_undecided(self) -> bool
         ensures { result ≡ is_undecided self }
     {
         matches!(self, Verdict::Undecided)
     }
 
-    /// Says whether a threshold is settled: the bound holds or fails.
+    /// Returns whether a threshold is settled: the bound holds or fails.
     pub fn is_settling(self) -> bool
         ensures { result ≡ is_settling self }
     {
@@ -53,7 +53,7 @@ impl Verdict {
     }
 }
 
-/// Gives the verdict of a lower and an upper bound, in units, on a bound of the value between them.
+/// Returns the verdict of a lower and an upper bound, in units, on a bound of the value between them.
 ///
 /// | Bound | `Yes` if | `No` if |
 /// |---|---|---|
@@ -91,7 +91,7 @@ fn verdict_by(holds: bool, fails: bool) -> Verdict
     }
 }
 
-// Says whether so many units are at least the threshold.
+// Returns whether this many units are at least the threshold.
 fn reaches(threshold: &Frac, units: u64) -> bool
     requires { units ≤ unit }
     ensures { result ≡ reaches threshold.now units }
@@ -99,7 +99,7 @@ fn reaches(threshold: &Frac, units: u64) -> bool
     threshold.num() * u128::from(UNIT) <= u128::from(units) * threshold.den()
 }
 
-// Says whether so many units are above the threshold.
+// Returns whether this many units are above the threshold.
 fn exceeds(threshold: &Frac, units: u64) -> bool
     requires { units ≤ unit }
     ensures { result ≡ exceeds threshold.now units }

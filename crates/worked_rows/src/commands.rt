@@ -77,7 +77,7 @@ impl<'a> Command<'a> {
     }
 }
 
-/// The shelf gives pieces of at most so many bytes, and these calls of the shelf and of the sink fail.
+/// The shelf gives pieces of at most this many bytes, and these calls of the shelf and of the sink fail.
 #[derive(Clone, Copy)]
 pub struct Outside<'a> {
     pub piece: u32,

@@ -52,7 +52,7 @@ fn too_few_rounds_leave_a_game_unsettled(rt: HostRuntime) -> Result<(), Fail> {
     all_write(&rt, rt.alloc(), TOO_FEW_ROUNDS)
 }
 
-// Returns what so many workers write of a large game that is settled.
+// Returns what this many workers write of a large game that is settled.
 fn written_by<R: Threads + Sync>(rt: &R, alloc: Global, workers: &str) -> Result<Vec<u8>, Fail> {
     let given = ["make", "7", "20000", "--workers", workers];
     let (ended, written) = ends_with(rt, alloc, &given, &OpenGate {})?;

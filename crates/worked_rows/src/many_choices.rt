@@ -9,7 +9,7 @@ use stogame_app::Status;
 // A state has at most this many choices.
 const MOST: u32 = 16_384;
 
-// Makes a state with so many choices, each of which stays there.
+// Makes a state with this many choices, each of which stays there.
 fn staying(alloc: Global, choices: u32) -> Result<String, Fail> {
     let mut text = format!(in alloc; "1 {choices} {choices}\n")?;
     for choice in 0..choices {
@@ -19,7 +19,7 @@ fn staying(alloc: Global, choices: u32) -> Result<String, Fail> {
     Ok(text)
 }
 
-// A state with so many choices gives this text and status.
+// A state with this many choices gives this text and status.
 fn choices_give<R: Threads + Sync>(
     rt: &R,
     alloc: Global,

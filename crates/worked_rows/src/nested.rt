@@ -139,7 +139,7 @@ fn names_inside_are_looked_up(rt: HostRuntime) -> Result<(), Fail> {
     answers_write(&rt, rt.alloc(), command, front, UNKNOWN_NAMES)
 }
 
-// Runs the coin loop with a formula and so many workers, and says how it ends and what it writes.
+// Runs the coin loop with a formula and this many workers, and says how it ends and what it writes.
 fn nested_by<R: Threads + Sync, G: Gate + Sync>(
     rt: &R,
     alloc: Global,
@@ -152,7 +152,7 @@ fn nested_by<R: Threads + Sync, G: Gate + Sync>(
     runs(rt, alloc, row, gate)
 }
 
-// So many workers write this.
+// This many workers write this.
 fn nested_writes<R: Threads + Sync>(rt: &R, alloc: Global, workers: &str) -> Result<(), Fail> {
     let formula = "Pmax=? [ F<=2 P>=1 [ F \"goal\" ] ]";
     let text =

@@ -59,7 +59,7 @@ pub fn files(alloc: Global, row: Row<'_>) -> Result<Vec<HeldFile>, Fail> {
     Ok(files)
 }
 
-/// Adds the same part to a text so many times.
+/// Adds the same part to a text this many times.
 pub fn push_times(text: &mut String, part: &str, times: u32) -> Result<(), Fail> {
     for _ in 0..times {
         text.push_str(part)?;

@@ -90,7 +90,7 @@ fn coalitions_are_answered(rt: HostRuntime) -> Result<(), Fail> {
     all_write(&rt, rt.alloc(), OF_THE_SECOND)
 }
 
-// So many workers find that the agreement is reached with probability at least eight tenths.
+// This many workers find that the agreement is reached with probability at least eight tenths.
 fn agree<R: Threads + Sync>(rt: &R, alloc: Global, workers: &str) -> Result<(), Fail> {
     let numbers = ["--workers", workers];
     let row = MOST_OF_AGREEMENT

@@ -17,7 +17,7 @@ use game_outside::OutOfMemory;
 use predecessors::Predecessors;
 use std::alloc::Global;
 
-/// Gives the states whose value is 0 at every horizon. The only error is that memory ran out.
+/// Returns the states whose value is 0 at every horizon. The only error is that memory ran out.
 pub fn zero_set(alloc: Global, question: &Question) -> Result<Marks, OutOfMemory>
     ensures { IfOk result (λ marks. IsZeroSet question.now marks) }
 {
@@ -25,7 +25,7 @@ pub fn zero_set(alloc: Global, question: &Question) -> Result<Marks, OutOfMemory
     zero_set_over(alloc, question, &predecessors)
 }
 
-/// Gives the states whose value is 0 at every horizon, from the predecessors in the question's game (Baier and Katoen
+/// Returns the states whose value is 0 at every horizon, from the predecessors in the question's game (Baier and Katoen
 /// 2008, chapter 10, Prob0). The only error is that memory ran out.
 pub fn zero_set_over(
     alloc: Global,

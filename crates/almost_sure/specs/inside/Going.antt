@@ -1,4 +1,4 @@
--- The outer set loses states.
+-- This module defines the states that the outer set has lost.
 use Rattle.std.specs.Prelude.{◌≡◌, ℕ, ◌<◌, Bool, true, false, List, length, slice_index_or, count_by}
 use Rattle.game_model.specs.Query.{Query, states, is_dead}
 use Rattle.almost_sure.specs.Values.{IsAway}

@@ -15,7 +15,7 @@ pub fn rounded_steps_bracket_exact_values()
         IsBracketed k (denominator q.game ^ k) (down_from q table k s) (up_from q table k s) (exact_from q table k s) }
 {}
 
-/// A sweep of k steps from the opening table of iteration brackets the values of k steps, within k units.
+/// A sweep of k steps from the opening table of iteration brackets the k-step values, within k units.
 pub fn bounded_values_are_bracketed()
     ensures { (q : Query) (k : ℕ) (lower upper : List ℕ) → IsQuery q → IsSweep q (opening q) k lower upper →
         (s : ℕ) → s < states q → IsBracketed k (denominator q.game ^ k) (slice_index lower s) (slice_index upper s)

@@ -8,7 +8,7 @@ ghost use Rattle.game_model.specs.Rounded.{down_steps, opening};
 ghost use Rattle.bounded_rounds.specs.Steps.{down_from};
 ghost use Rattle.bounded_rounds.specs.Exact.{exact_from, next_numerator, IsNext};
 
-/// From the opening table of iteration the exact values are the values of k steps.
+/// From the opening table of iteration the exact values are the k-step values.
 pub fn exact_values_are_k_step_values()
     ensures { (q : Query) (k s : ℕ) → exact_from q (opening q) k s ≡ unit * numerator q k s }
 {}

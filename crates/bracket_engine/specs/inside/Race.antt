@@ -1,4 +1,4 @@
--- Two races are over.
+-- This module defines when the rounds of two races are over: one on a question, and one on its swapped question.
 use Rattle.std.specs.Prelude.{◌≡◌, ℕ, ◌<◌, ◌≤◌, ◌⊎◌, Bool, true, List, Option, None, IfSome, is_some}
 use Rattle.game_model.specs.Query.{Query}
 use Rattle.game_model.specs.Rounded.{IsSettled}

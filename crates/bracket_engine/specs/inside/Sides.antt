@@ -1,4 +1,4 @@
--- A bracket has a lower and an upper side.
+-- This module defines the lower side and the upper side of a bracket.
 use Rattle.std.specs.Prelude.{ℕ, Bool, List, Option}
 use Rattle.game_model.specs.Query.{Query}
 use Rattle.lower_guess.specs.declared.guess.LowerGuess.{LowerGuess}

@@ -1,4 +1,4 @@
-//! This module has laws of coarse bounds. Each function does nothing: its contract is the law.
+//! This module has the laws of coarse bounds. Each function does nothing: its contract is the law.
 
 ghost use Rattle.std.specs.Prelude.{◌<◌, ◌≤◌, ℕ, All, List};
 ghost use Rattle.game_model.specs.Game.{IsGame};

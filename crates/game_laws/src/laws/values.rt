@@ -27,8 +27,8 @@ pub fn inductive_tables_are_high()
     ensures { (q : Query) (table : ℕ → ℕ) → IsQuery q → IsInductive q table → IsHigh q table }
 {}
 
-/// If an upper entry and the entry of r down steps of the swapped question are together at most 1, the upper entry is
-/// at most r units above the value of not being lost after r steps.
+/// Let the lost states be those of value 0. If an upper entry and the entry of r down steps of the swapped question are
+/// together at most 1, the upper entry is at most r units above the value of not being lost after r steps.
 pub fn dual_bounds_come_near()
     ensures { (q : Query) (lost : List Bool) → IsQuery q → IsZeroSet q lost → (r s upper : ℕ) → s < states q →
         upper + down_steps (swapped q lost) r s ≤ unit →

@@ -39,7 +39,7 @@ impl HoldGate {
         }
     }
 
-    /// Says whether a worker's turns ran out before the other arrived.
+    /// Returns whether a worker's turns ran out before the other arrived.
     pub fn gave_up(&self) -> bool {
         self.gave_up.load(Ordering::SeqCst)
     }

@@ -48,7 +48,7 @@ impl LateGate {
         }
     }
 
-    /// Says whether the worker's turns ran out before the others had arrived this often.
+    /// Returns whether the worker's turns ran out before the others had arrived this often.
     pub fn gave_up(&self) -> bool {
         self.gave_up.load(Ordering::SeqCst)
     }

@@ -1,4 +1,4 @@
--- A step down looks at marked states.
+-- This module defines the marks of the states that a step down looks at.
 use Rattle.std.specs.Prelude.{◌≡◌, ℕ, ◌<◌, ◌≤◌, Bool, false, List, length, slice_index_or}
 use Rattle.game_model.specs.Game.{Distribution}
 use Rattle.game_model.specs.Query.{Query, states}

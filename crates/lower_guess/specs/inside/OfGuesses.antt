@@ -13,7 +13,7 @@ use Rattle.lower_guess.specs.declared.guesses.Guesses.{Guesses}
 abbrev pub first_entry_of : Guesses → ℕ → ℕ
 first_entry_of g s = first_raised g.question.now g.zero.now (slice_index g.base.now) g.excess s
 
--- This is the entry of a state after so many steps down.
+-- This is the entry of a state after this many steps down.
 abbrev pub entry_of : Guesses → ℕ → ℕ → ℕ
 entry_of g steps s = raised_table g.question.now g.zero.now (slice_index g.base.now) g.excess steps s
 
@@ -34,11 +34,11 @@ best_of g steps s =
 abbrev pub IsSumOf : Guesses → ℕ → Distribution → ℕ → Type 0
 IsSumOf g steps choice sum = IsSumBetween choice.edges (entry_of g steps) (entry_of g steps) sum
 
--- The list is the table after so many steps down.
+-- The list is the table after this many steps down.
 abbrev pub IsTableOf : Guesses → ℕ → List ℕ → Type 0
 IsTableOf g steps table = IsTable g.question.now (entry_of g steps) table
 
--- No choices and ranks make the table after so many steps down ranked.
+-- No choices and ranks prove the table after this many steps down.
 abbrev pub IsRefusedOf : Guesses → ℕ → Type 0
 IsRefusedOf g steps = IsRefused g.question.now (entry_of g steps)
 

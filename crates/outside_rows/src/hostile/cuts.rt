@@ -9,7 +9,7 @@ use std::thread::Threads;
 use stogame_app::Status;
 use worked_rows::{COIN_LOOP, COIN_LOOP_REPORT, MOST_OF_COIN_LOOP, Row, runs, writes};
 
-// The file is refused if it is cut after so many bytes, except if only the ending of the last line is missing.
+// The file is refused if it is cut after this many bytes, except if only the ending of the last line is missing.
 fn cut_is_refused<R: Threads + Sync>(rt: &R, alloc: Global, length: usize) -> Result<(), Fail> {
     let bytes = COIN_LOOP.as_bytes().get(..length).unwrap_or(&[]);
     let Ok(tra) = from_utf8(bytes) else {

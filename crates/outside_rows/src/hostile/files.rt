@@ -136,7 +136,7 @@ fn owners_give<R: Threads + Sync>(
     writes(rt, alloc, row, text, status)
 }
 
-// Makes a header of so many names, of which these are the first two.
+// Makes a header of this many names, of which these are the first two.
 fn many_names(alloc: Global, first_two: &str, count: u32) -> Result<String, Fail> {
     let mut text = String::from_str(alloc, first_two)?;
     for index in 2..count {
@@ -146,7 +146,7 @@ fn many_names(alloc: Global, first_two: &str, count: u32) -> Result<String, Fail
     Ok(text)
 }
 
-// A header of so many labels gives this text and status.
+// A header of this many labels gives this text and status.
 fn label_count<R: Threads + Sync>(
     rt: &R,
     alloc: Global,
@@ -166,7 +166,7 @@ fn a_label_beyond_the_thousandth_is_refused(rt: HostRuntime) -> Result<(), Fail>
     label_count(&rt, rt.alloc(), 1001, refusal, Status::ModelRefused)
 }
 
-// A header of so many players gives this text and status.
+// A header of this many players gives this text and status.
 fn player_count<R: Threads + Sync>(
     rt: &R,
     alloc: Global,
@@ -186,7 +186,7 @@ fn a_player_beyond_the_64th_is_refused(rt: HostRuntime) -> Result<(), Fail> {
     player_count(&rt, rt.alloc(), 65, refusal, Status::ModelRefused)
 }
 
-// Makes a header with a third item, whose name has so many bytes.
+// Makes a header with a third item, whose name has this many bytes.
 fn long_name(alloc: Global, first_two: &str, bytes: u32) -> Result<String, Fail> {
     let mut text = format!(in alloc; "{first_two} 2=\"")?;
     push_times(&mut text, "n", bytes)?;
@@ -194,7 +194,7 @@ fn long_name(alloc: Global, first_two: &str, bytes: u32) -> Result<String, Fail>
     Ok(text)
 }
 
-// A label of so many bytes gives this text and status.
+// A label of this many bytes gives this text and status.
 fn label_length<R: Threads + Sync>(
     rt: &R,
     alloc: Global,
@@ -214,7 +214,7 @@ fn a_label_of_256_bytes_is_refused(rt: HostRuntime) -> Result<(), Fail> {
     label_length(&rt, rt.alloc(), 256, refusal, Status::ModelRefused)
 }
 
-// A player whose name has so many bytes gives this text and status.
+// A player whose name has this many bytes gives this text and status.
 fn player_length<R: Threads + Sync>(
     rt: &R,
     alloc: Global,

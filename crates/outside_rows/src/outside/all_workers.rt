@@ -34,7 +34,7 @@ impl LastGate {
         )
     }
 
-    // Says whether the last of the workers passed the gate, and no later one did.
+    // Returns whether the last of the workers passed the gate, and no later one did.
     fn has_all(&self) -> bool {
         let (passed, behind) = self.counts();
         passed > 0 && behind == 0
@@ -52,7 +52,7 @@ impl Gate for LastGate {
     }
 }
 
-// So many workers of a check pass the gate.
+// This many workers of a check pass the gate.
 fn check_has_all<R: Threads + Sync>(
     rt: &R,
     alloc: Global,
@@ -74,14 +74,14 @@ fn checks_have_all<R: Threads + Sync>(rt: &R, alloc: Global) -> Result<(), Fail>
     Ok(())
 }
 
-// The first round has every state. The twelve states are shared by their edges, and each of so many workers has at
+// The first round has every state. The twelve states are shared by their edges, and each of this many workers has at
 // least one.
 #[test]
 fn all_workers_of_a_check_pass_the_gate(rt: HostRuntime) -> Result<(), Fail> {
     checks_have_all(&rt, rt.alloc())
 }
 
-// So many workers of a drawn game pass the gate.
+// This many workers of a drawn game pass the gate.
 fn game_has_all<R: Threads + Sync>(
     rt: &R,
     alloc: Global,
@@ -150,7 +150,7 @@ const RUNS: [(&str, u32); 13] = [
     ("Pmax=? [ X P>=1 [ F \"goal\" ] ]", 2 + 2),
 ];
 
-// The last of so many workers passes the gate before each of its states as often as all states are updated, and no
+// The last of this many workers passes the gate before each of its states as often as all states are updated, and no
 // later worker passes it.
 fn all_pass<R: Threads + Sync>(
     rt: &R,

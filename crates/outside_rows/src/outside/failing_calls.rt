@@ -71,7 +71,7 @@ fn with_write_fault<R: Threads + Sync>(
     ends_over(rt, alloc, case.command, outside)
 }
 
-// So many bytes of the text of a case were written before a write failed.
+// This many bytes of the text of a case were written before a write failed.
 fn is_front(case: &Case<'_>, ended: &Ended, taken: usize) -> Result<(), Fail> {
     let starts = case.text.as_bytes().starts_with(&ended.written);
     let found = (ended.status, ended.written.len(), starts);

@@ -53,7 +53,7 @@ const OWNERS: Lines = &[("1: 1\r\n", 1500)];
 /// The last line names another owner.
 const TWO_OWNERS: Lines = &[("1: 1\r\n", 1500), ("1: 0\r\n", 1)];
 
-// Makes a header with so many blanks after it, and lines. All end in CR and LF.
+// Makes a header with this many blanks after it, and lines. All end in CR and LF.
 fn long_text(alloc: Global, header: &str, blanks: u32, lines: Lines) -> Result<String, Fail> {
     let mut text = String::from_str(alloc, header)?;
     push_times(&mut text, " ", blanks)?;
@@ -193,7 +193,7 @@ fn shelf_in_pieces(alloc: Global, piece: u32) -> Result<MemShelf, Fail>
     Ok(MemShelf::new(held, piece, Vec::new(alloc)))
 }
 
-// The file is read with a limit of so many bytes, and is too long with one byte less.
+// The file is read with a limit of this many bytes, and is too long with one byte less.
 fn transitions_of_54_bytes(alloc: Global, piece: u32) -> Result<(), Fail>
     requires { 0 < piece }
 {
@@ -207,7 +207,7 @@ fn transitions_of_54_bytes(alloc: Global, piece: u32) -> Result<(), Fail>
     )
 }
 
-// The file is read with a limit of so many bytes, and is too long with one byte less.
+// The file is read with a limit of this many bytes, and is too long with one byte less.
 fn labels_of_28_bytes(alloc: Global, piece: u32) -> Result<(), Fail>
     requires { 0 < piece }
 {
@@ -221,7 +221,7 @@ fn labels_of_28_bytes(alloc: Global, piece: u32) -> Result<(), Fail>
     )
 }
 
-// The file is read with a limit of so many bytes, and is too long with one byte less.
+// The file is read with a limit of this many bytes, and is too long with one byte less.
 fn owners_of_19_bytes(alloc: Global, piece: u32) -> Result<(), Fail>
     requires { 0 < piece }
 {

@@ -69,7 +69,7 @@ fn with_text<'a>(row: Row<'a>, file: usize, text: &'a str) -> Row<'a> {
     }
 }
 
-// Says how the check of a row ends over pieces of so many bytes.
+// Says how the check of a row ends over pieces of this many bytes.
 fn ends_in_pieces<R: Threads + Sync>(
     rt: &R,
     alloc: Global,
@@ -86,8 +86,8 @@ fn ends_in_pieces<R: Threads + Sync>(
     ends_over(rt, alloc, Command::Check(row), outside)
 }
 
-// The check of a row ends the same over pieces of so many bytes and over large ones. The result says whether its files
-// are accepted.
+// The check of a row ends the same over pieces of this many bytes and over large ones. The result says whether its
+// files are accepted.
 fn is_answered<R: Threads + Sync>(
     rt: &R,
     alloc: Global,
@@ -121,7 +121,7 @@ fn one_is_answered<R: Threads + Sync>(
     is_answered(rt, alloc, row, draws.between(1, 40))
 }
 
-// Counts how many of so many changed texts of this file are accepted.
+// Counts how many of this many changed texts of this file are accepted.
 fn are_answered<R: Threads + Sync>(
     rt: &R,
     alloc: Global,

@@ -8,7 +8,7 @@ use Rattle.rank_certificate.specs.inside.Growth.{IsGrowth, IsApart, Looks, Follo
 use Rattle.rank_certificate.specs.declared.asked.Asked.{Asked}
 use Rattle.rank_certificate.specs.declared.growth.Growth.{Growth}
 
--- The question has so many states.
+-- The question has this many states.
 abbrev pub states_in : Asked → ℕ
 states_in a = states a.question.now
 

@@ -12,7 +12,7 @@ pub trait Situation: Copy + PartialEq {
     /// cent.
     fn choices(self, alloc: Global) -> Option<Vec<Vec<(Self, u64)>>>;
 
-    /// Says whether the state is a goal.
+    /// Returns whether the state is a goal.
     fn is_goal(self) -> bool;
 }
 

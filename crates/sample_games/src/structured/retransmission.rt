@@ -20,7 +20,7 @@ enum Phase {
 /// This is what the sender does.
 #[derive(Clone, Copy, PartialEq)]
 enum Sender {
-    /// The sender waits for the acknowledgement of the frame, after so many tries that failed.
+    /// The sender waits for the acknowledgement of the frame, after this many tries that failed.
     Waits {
         frame: u32,
         tries: u32,

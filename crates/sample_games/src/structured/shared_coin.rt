@@ -23,7 +23,7 @@ struct Tossing {
 }
 
 impl Tossing {
-    /// Says whether the counter has come to an end of its range.
+    /// Returns whether the counter has come to an end of its range.
     fn is_over(self) -> bool {
         self.counter == 0 || self.counter >= 2 * REACH
     }

@@ -8,9 +8,9 @@ ghost use Rattle.strategies.specs.Stopping.{undecided, ending, IsStopping, AreCl
 ghost use Rattle.game_model.specs.Dual.{IsZeroSet};
 ghost use Rattle.game_model.specs.declared.game.Side.TheVariants.{Max, Min};
 
-/// If plays come to an end, a bracket closes. If from every state, however both play, the play is over within n steps
-/// with a positive probability, then after r rounds, at least j times n, the upper bound is above the lower one by at
-/// most 2 r units and the j-th power of 1 - 1/D^n.
+/// If plays come to an end, a bracket closes. Suppose that from every state, however both play, the play is over within
+/// n steps with a positive probability. Then after r rounds, with r at least j times n, the upper bound is above the
+/// lower one by at most 2 r units and the j-th power of 1 - 1/D^n.
 pub fn stopping_brackets_close()
     ensures { (q : Query) (lost : List Bool) (n j r : ℕ) (lower upper : ℕ → ℕ) → IsQuery q → IsZeroSet q lost
         → IsStopping q lost n → j * n ≤ r →

@@ -1,4 +1,4 @@
--- This file says how parts are broken up.
+-- This module says how parts are broken up.
 use Rattle.std.specs.Prelude.{◌≡◌, ◌≢◌, ℕ, ◌<◌, ◌≤◌, Bool, true, false, List, length, slice_index, slice_index_or}
 use Rattle.std.specs.Prelude.{Option}
 use Rattle.game_model.specs.Query.{Query, states}

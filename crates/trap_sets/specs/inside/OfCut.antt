@@ -1,4 +1,4 @@
--- This file states the definitions for a cut question.
+-- This module states the definitions for a cut question.
 use Rattle.std.specs.Prelude.{ℕ, List, Bool}
 use Rattle.game_model.specs.Query.{states}
 use Rattle.trap_sets.specs.declared.cut.Cut.{Cut}

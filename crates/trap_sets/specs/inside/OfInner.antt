@@ -1,4 +1,4 @@
--- This file states the definitions for the inner choices of given parts.
+-- This module states the definitions for the inner choices of given parts.
 use Rattle.std.specs.Prelude.{ℕ}
 use Rattle.game_model.specs.Query.{states}
 use Rattle.trap_sets.specs.declared.inner.Inner.{Inner}

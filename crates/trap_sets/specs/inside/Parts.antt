@@ -1,13 +1,13 @@
--- This file defines parts of the states, and the choices that stay in them.
+-- This module defines parts of the states, and the choices that stay in them.
 use Rattle.std.specs.Prelude.{◌≡◌, ◌≢◌, ℕ, ◌+◌, ◌-◌, ◌<◌, ◌≤◌, List, slice_index, Option}
 use Rattle.game_model.specs.Query.{Query, states}
 use Rattle.trap_sets.specs.Moves.{IsCut, Leads, Reach}
 
--- Each successor of the choice has the number of its state.
+-- Each successor of the choice has the same number as the state of the choice.
 abbrev pub Stays : Query → List ℕ → ℕ → ℕ → Type 0
 Stays q of s c = (t : ℕ) → Leads q s c t → slice_index of t ≡ slice_index of s
 
--- Some successor of the choice has another number than its state.
+-- Some successor of the choice has another number than the state of the choice.
 abbrev pub Leaves : Query → List ℕ → ℕ → ℕ → Type 0
 Leaves q of s c = (t : ℕ) × Leads q s c t × (slice_index of t ≢ slice_index of s)
 

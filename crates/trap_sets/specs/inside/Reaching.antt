@@ -1,4 +1,4 @@
--- This file says what searches from the roots of all parts reach, along inner choices or against them.
+-- This module says what searches from the roots of all parts reach, along inner choices or against them.
 use Rattle.std.specs.Prelude.{◌≡◌, ◌⊎◌, ℕ, ◌+◌, ◌<◌, Bool, true, false, List, length, slice_index, slice_index_or}
 use Rattle.game_model.specs.Growing.{IsLonger}
 use Rattle.attractors.specs.Growing.{IsOrder, IsLarger}

@@ -1,4 +1,4 @@
--- This file defines the roots of parts, and the numbers of the parts.
+-- This module defines the roots of parts, and the numbers of the parts.
 use Rattle.std.specs.Prelude.{◌≡◌, ℕ, zero, suc, ◌+◌, ◌<◌, ◌==◌, List, length, slice_index, if◌then◌else◌}
 
 -- This many of the first states are roots.

@@ -1,4 +1,4 @@
--- This file defines parts of the states on the way to the traps: each end component lies in one part.
+-- This module defines parts of the states on the way to the traps: each end component lies in one part.
 use Rattle.std.specs.Prelude.{◌≡◌, ◌≢◌, ℕ, ◌<◌, ◌⊎◌, Bool, true, List, length, slice_index, Option}
 use Rattle.game_model.specs.Query.{Query, states}
 use Rattle.fixed_bellman.specs.Given.{IsFree}

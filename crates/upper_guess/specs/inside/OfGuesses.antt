@@ -26,7 +26,7 @@ choice_at g s c = choice_of g.question.now.game s c
 abbrev pub best_of : Guesses → ℕ → ℕ → ℕ
 best_of g steps s = optimum (side_at g.question.now s) (up_value (entry_of g steps)) (choices_of g.question.now.game s)
 
--- The sum is that of weight times entry over the edges of a choice: it is between the sum over the table and itself.
+-- The number is the sum of weight times entry over the edges of a choice.
 abbrev pub IsSumOf : Guesses → ℕ → Distribution → ℕ → Type 0
 IsSumOf g steps choice sum = IsSumBetween choice.edges (entry_of g steps) (entry_of g steps) sum
 
@@ -46,7 +46,7 @@ AreRefusedOf g = AreRefused g.question.now g.zero.now (slice_index g.lower.now) 
 abbrev pub IsFirstOf : Guesses → List ℕ → Type 0
 IsFirstOf g table = IsFirstAt g.question.now g.zero.now (slice_index g.lower.now) g.excess table
 
--- These are the up steps of a table that was made, if any.
+-- This is the number of up steps of the table that was made, and 0 if none was made.
 abbrev pub steps_of : Option (Vec ℕ × ℕ) → ℕ
 steps_of None = 0
 steps_of (Some m) = m.1

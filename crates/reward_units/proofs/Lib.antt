@@ -1,0 +1,7 @@
+pub mod Places
+pub mod Rounding
+pub mod Near
+pub mod Denominator
+pub mod Capped
+pub mod Grows
+pub mod Bounds
