@@ -14,7 +14,7 @@ pub struct Quotient {
     pub rest: u128,
 }
 
-/// Divides a fraction of at most 10^15 into units of so many places.
+/// Divides a fraction below 10^15 + 1 into units of this many places.
 pub fn divide(num: u128, den: u128, places: u32) -> Quotient
     requires small { num < (unit + 1) * den }
     requires fine { den ≤ finest }

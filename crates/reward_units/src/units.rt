@@ -8,7 +8,8 @@ use crate::division::divide;
 use crate::limits::MOST_UNITS;
 use game_model::UNIT;
 
-/// Returns the units of an exact reward, rounded down. The reward is this numerator over this denominator.
+/// Returns the units of an exact reward, rounded down, or [`MOST_UNITS`] if they are more than 10^15. The reward is
+/// this numerator over this denominator.
 pub fn units_below(num: u128, den: u128, places: u32) -> u64
     requires divided { 1 ≤ den }
     requires fine { den ≤ finest }
@@ -21,7 +22,8 @@ pub fn units_below(num: u128, den: u128, places: u32) -> u64
     cap(divide(num, den, places).units)
 }
 
-/// Returns the units of an exact reward, rounded up. The reward is this numerator over this denominator.
+/// Returns the units of an exact reward, rounded up, or [`MOST_UNITS`] if they are more than 10^15. The reward is this
+/// numerator over this denominator.
 pub fn units_above(num: u128, den: u128, places: u32) -> u64
     requires divided { 1 ≤ den }
     requires fine { den ≤ finest }

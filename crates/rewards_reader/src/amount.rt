@@ -31,14 +31,14 @@ impl Model for Amount {
 }
 
 impl Amount {
-    /// Gives the reward 0.
+    /// Returns the reward 0.
     pub fn zero() -> Amount
         ensures { result ≡ no_reward }
     {
         Amount { num: 0, den: 1 }
     }
 
-    /// Gives the amount of these numbers, which are in lowest terms.
+    /// Returns the amount of these numbers, which are in lowest terms.
     pub(crate) fn of(num: u128, den: u128) -> Amount
         requires lowest { IsGcd num den 1 }
         requires positive { 1 ≤ den }
@@ -49,7 +49,7 @@ impl Amount {
         Amount { num, den }
     }
 
-    /// Gives the amount of a number from 0 to 2.
+    /// Returns the amount of a number from 0 to 2.
     pub(crate) fn of_number(number: &Frac) -> Amount
         ensures { result ≡ number.now }
     {
@@ -64,7 +64,7 @@ impl Amount {
         let _ = &self.num;
     }
 
-    /// Gives the numerator.
+    /// Returns the numerator.
     pub fn num(&self) -> u128
         ensures value { result ≡ self.now.num }
         ensures small { result ≤ most_reward * self.now.den }
@@ -73,7 +73,7 @@ impl Amount {
         self.num
     }
 
-    /// Gives the denominator.
+    /// Returns the denominator.
     pub fn den(&self) -> u128
         ensures value { result ≡ self.now.den }
         ensures positive { 1 ≤ result }

@@ -26,7 +26,7 @@ pub enum RewardsCause {
     StateOutOfRange,
     /// A choice is not below the number of choices of its state.
     ChoiceOutOfRange,
-    /// The reward of a line is refused, as a probability would be. It is never refused for its size.
+    /// The reward of a line is refused, as a probability would be. The cause is never `NumberFault::TooLarge`.
     Number(NumberFault),
     /// The reward of a line is above 10^15.
     TooLarge,
@@ -58,7 +58,7 @@ impl RewardsEnd {
     ghost use Rattle.rewards_reader.specs.declared.fault.RewardsEnd.TheVariants.{Refused};
     ghost use Rattle.rewards_reader.specs.Texts.{fault_at};
 
-    /// Gives the end that the line of this number has a fault.
+    /// Returns the end that the line of this number has a fault.
     pub(crate) fn at(line: u32, cause: RewardsCause) -> RewardsEnd
         ensures { result ≡ Refused (fault_at line cause) }
     {

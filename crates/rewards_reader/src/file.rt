@@ -14,8 +14,8 @@ use game_model::Game;
 use game_outside::{FileEnd, Shelf, read_lines_from};
 use std::alloc::Global;
 
-/// Reads the rewards of a game from the text under a name, or the first fault of the text, in whatever pieces the text
-/// comes.
+/// Reads the rewards of a game from the text under a name, in whatever pieces the text comes. The error is a fault of
+/// reading, that the text is too long, that memory ran out, or the first fault of the text.
 pub fn read_rewards_from<H: Shelf>(
     alloc: Global,
     shelf: &mut H,
@@ -39,7 +39,7 @@ pub fn read_rewards_from<H: Shelf>(
     }
 }
 
-// Gives the end of a file whose lines end like this.
+// Returns the end of a file whose lines end like this.
 fn end_of_file(end: FileEnd<RewardsEnd>) -> FileEnd<RewardsFault>
     ensures { result ≡ end_of_file end }
 {

@@ -15,7 +15,7 @@ use crate::limits::{MOST_REWARD, MOST_REWARD_TENS};
 use crate::spelling::Power;
 use fractions::NumberFault;
 
-/// Gives the reward of a decimal above 2, or its fault.
+/// Returns the reward of a decimal above 2, or its fault.
 pub fn large_decimal(front: &[u8], back: &[u8], power: Power<'_>) -> Result<Amount, RewardsCause>
     requires front { all_digits front.now ≡ true }
     requires back { all_digits back.now ≡ true }
@@ -33,7 +33,7 @@ pub fn large_decimal(front: &[u8], back: &[u8], power: Power<'_>) -> Result<Amou
     }
 }
 
-/// Gives the reward of a fraction above 2, or its fault.
+/// Returns the reward of a fraction above 2, or its fault.
 pub fn large_quotient(above: &[u8], below: &[u8]) -> Result<Amount, RewardsCause>
     requires above { all_digits above.now ≡ true }
     requires below { all_digits below.now ≡ true }
@@ -43,7 +43,7 @@ pub fn large_quotient(above: &[u8], below: &[u8]) -> Result<Amount, RewardsCause
     reduced(digits_onto(0, above), digits_onto(0, below))
 }
 
-// Gives the number whose digits are those of a number and then these.
+// Returns the number whose digits are those of a number and then these.
 fn digits_onto(before: u128, digits: &[u8]) -> u128
     requires digits { all_digits digits.now ≡ true }
     requires small { (before + 1) * 10 ^ length digits.now ≤ 10 ^ most_digits }
@@ -57,8 +57,8 @@ fn digits_onto(before: u128, digits: &[u8]) -> u128
     value
 }
 
-// Gives the reward of digits times a power of ten, over a power of ten, or its fault. It is above 2, so it has more
-// digits than places.
+// Returns the reward of digits times a power of ten, over a power of ten, or its fault. It is above 2, so `10^(down -
+// up)` is below the digits.
 fn large_over_tens(digits: u128, up: u32, down: u32) -> Result<Amount, RewardsCause>
     requires small { digits < 10 ^ most_digits }
     requires large { fraction_said (record { num = digits * 10 ^ up; den = 10 ^ down }) ≡ Err NumberFault.TooLarge }
@@ -76,7 +76,7 @@ fn large_over_tens(digits: u128, up: u32, down: u32) -> Result<Amount, RewardsCa
     checked(digits * 10u128.pow(up - down), 1)
 }
 
-// Gives the reward of a fraction above 2, or its fault.
+// Returns the reward of a fraction above 2, or its fault.
 fn reduced(above: u128, below: u128) -> Result<Amount, RewardsCause>
     requires { fraction_said (record { num = above; den = below }) ≡ Err NumberFault.TooLarge }
     ensures { result ≡ amount_of (record { num = above; den = below }) }
@@ -85,7 +85,7 @@ fn reduced(above: u128, below: u128) -> Result<Amount, RewardsCause>
     checked(above / divisor, below / divisor)
 }
 
-// Gives the reward of a fraction in lowest terms, unless it is too large.
+// Returns the reward of a fraction in lowest terms, unless it is too large.
 fn checked(num: u128, den: u128) -> Result<Amount, RewardsCause>
     requires lowest { IsGcd num den 1 }
     requires positive { 1 ≤ den }

@@ -6,5 +6,5 @@ pub const MOST_LINES: u32 = 8_000_000;
 /// A reward is at most this number.
 pub const MOST_REWARD: u128 = 1_000_000_000_000_000;
 
-/// A whole number of this many digits or less is at most the greatest reward.
+/// The greatest reward is 10 to this power.
 pub(crate) const MOST_REWARD_TENS: u32 = 15;

@@ -1,6 +1,7 @@
 //! This module has the rewards of a game.
 
 ghost use Rattle.std.specs.Prelude.{◌≡◌, ◌<◌, ◌≤◌, ◌+◌, ◌^◌, length, Some, None, slice_index_or, unwrap_or};
+ghost use Rattle.game_model.specs.Game.{choices_of};
 ghost use Rattle.rewards_reader.specs.Amounts.{no_reward};
 ghost use Rattle.rewards_reader.specs.Rewards.{place_of, reward_in};
 
@@ -32,7 +33,8 @@ impl Rewards {
         Rewards { entries }
     }
 
-    /// Gives the reward of a state of the game, which is 0 if no line gives one.
+    /// Returns the reward of a state, which is 0 if no line gives one. The game is the one for which the rewards were
+    /// read.
     pub fn of_state(&self, game: &Game, state: u32) -> Amount
         requires { state < length game.now }
         ensures { result ≡ reward_in game.now self.now state None }
@@ -40,15 +42,17 @@ impl Rewards {
         self.at(place_of(game, state, None))
     }
 
-    /// Gives the reward of a choice of a state of the game, which is 0 if no line gives one.
+    /// Returns the reward of a choice of a state, which is 0 if no line gives one. The game is the one for which the
+    /// rewards were read.
     pub fn of_choice(&self, game: &Game, state: u32, choice: u32) -> Amount
-        requires { state < length game.now }
+        requires state { state < length game.now }
+        requires choice { choice < length (choices_of game.now state) }
         ensures { result ≡ reward_in game.now self.now state (Some choice) }
     {
         self.at(place_of(game, state, Some(choice)))
     }
 
-    // Gives the reward at a place, which is 0 if the entry has none.
+    // Returns the reward at a place, which is 0 if the entry has none.
     fn at(&self, place: usize) -> Amount
         ensures { result ≡ unwrap_or (slice_index_or self.now place None) no_reward }
     {
@@ -59,7 +63,7 @@ impl Rewards {
     }
 }
 
-/// Gives the place of a state, or of a choice of it, in a table of rewards.
+/// Returns the place of a state, or of a choice of it, in a table of rewards.
 pub fn place_of(game: &Game, state: u32, choice: Option<u32>) -> usize
     requires { state < length game.now }
     ensures { result ≡ place_of game.now state choice }

@@ -26,7 +26,7 @@ pub enum Written<'a> {
     },
 }
 
-// Gives the number of digits at the front.
+// Returns the number of digits at the front.
 fn digits_length(text: &[u8]) -> usize
     ensures value { result ≡ digits_len text.now }
     ensures within { result ≤ length text.now }
@@ -43,7 +43,7 @@ fn digits_length(text: &[u8]) -> usize
     count
 }
 
-// Gives the digits at the front, and the bytes after them.
+// Returns the digits at the front, and the bytes after them.
 fn split_digits(text: &[u8]) -> (&[u8], &[u8])
     ensures leading { result.0.now ≡ leading_digits text.now }
     ensures behind { result.1.now ≡ behind_digits text.now }

@@ -90,7 +90,7 @@ impl<'g> RewardTable<'g> {
         }
     }
 
-    // Gives the cause that there is a line more than stated.
+    // Returns the cause that there is a line more than stated.
     fn one_too_many(&self) -> RewardsCause
         ensures { result ≡ LineCount (self.now.stated + 1) self.now.stated }
     {
@@ -124,7 +124,7 @@ impl<'g> RewardTable<'g> {
         self.count += 1;
     }
 
-    /// Gives the fault of a blank line of this number.
+    /// Returns the fault of a blank line of this number.
     pub fn blank(&self, number: u32) -> RewardsEnd
         ensures { RefusesLine self.now number [] result }
     {
@@ -134,7 +134,7 @@ impl<'g> RewardTable<'g> {
         RewardsEnd::at(number, RewardsCause::FieldCount)
     }
 
-    /// Gives the rewards when the text has no more lines, unless lines are missing.
+    /// Returns the rewards when the text has no more lines, unless lines are missing.
     pub fn finish(self) -> Result<Rewards, RewardsEnd>
         ensures { (before : List RewardLine) (number : ℕ) → IsKept self.entry before → IsAnswer self.entry.game.now
             (lines_from self.entry.game.now self.entry.stated before number []) result }
@@ -156,7 +156,7 @@ impl<'g> RewardTable<'g> {
     }
 }
 
-// Gives the entries of a game for which no line gives a reward.
+// Returns the entries of a game for which no line gives a reward.
 fn no_rewards(alloc: Global, game: &Game) -> Result<Vec<Option<Amount>>, AllocError>
     ensures { IfOk result (λ entries. entries.items
         ≡ replicate (choices_below game.now (length game.now) + length game.now) None) }

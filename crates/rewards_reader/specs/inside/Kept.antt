@@ -24,7 +24,7 @@ pub record IsKept (table : RewardTable) (lines : List RewardLine) : Type 0 where
   pub count : length lines ≡ table.count
   pub entries : AreEntries table.game.now lines table.entries.items
 
--- The line of this number says what is read, or has this fault, or memory ran out.
+-- This is the fault of the line of this number.
 abbrev pub IsFaultAt : {X : Type 0} → ℕ → Result X RewardsCause → RewardsFault → Type 0
 IsFaultAt number (Ok x) fault = ⊥
 IsFaultAt number (Err cause) fault = fault ≡ fault_at number cause
