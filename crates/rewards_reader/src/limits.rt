@@ -6,5 +6,5 @@ pub const MOST_LINES: u32 = 8_000_000;
 /// A reward is at most this number.
 pub const MOST_REWARD: u128 = 1_000_000_000_000_000;
 
-/// A whole number of this many digits or less is at most the greatest reward.
+/// A power of ten with a greater exponent than this one is above the greatest reward.
 pub(crate) const MOST_REWARD_TENS: u32 = 15;
