@@ -18,5 +18,7 @@ mod read;
 mod states;
 
 pub use formula::{Bound, Formula, Names, PathKind, StateFormula};
+pub use heads::read_coalition;
 pub use limits::{MOST_NESTED, MOST_STEPS};
 pub use read::read_formula;
+pub use states::{Read, read_state};

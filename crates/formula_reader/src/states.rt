@@ -116,7 +116,7 @@ fn nested_state<'a>(alloc: Global, room: u32, token: Token<'a>) -> Read<'a>
         let (state, rest) = unary_state(alloc, room - 1, token.after)?;
         Ok((negation(alloc, state)?, rest))
     } else {
-        let (state, rest) = level_state(alloc, Level::Implication, room - 1, token.after)?;
+        let (state, rest) = read_state(alloc, room - 1, token.after)?;
         let rest = behind(rest, ")")?;
         Ok((state, rest))
     }
@@ -178,7 +178,7 @@ fn read_path<'a>(alloc: Global, room: u32, cursor: Cursor<'a>) -> ReadPath<'a>
             token.after,
         );
     }
-    let (left, rest) = level_state(alloc, Level::Implication, room, cursor)?;
+    let (left, rest) = read_state(alloc, room, cursor)?;
     let rest = behind(rest, "U")?;
     read_reached(alloc, room, left, rest)
 }
@@ -200,6 +200,14 @@ fn read_reached<'a>(
     }
 }
 
+/// Reads a state formula, if `room` more `!`, `(` and `[` may be open in it.
+#[cycle(state)]
+pub fn read_state<'a>(alloc: Global, room: u32, cursor: Cursor<'a>) -> Read<'a>
+    ensures { AnswersOrWants IsOutOfMemory (read_at state_of) result (implied (unary (nested room)) (tokens_at cursor.entry)) }
+{
+    level_state(alloc, Level::Implication, room, cursor)
+}
+
 // Reads the right side of a path.
 #[cycle(state)]
 fn read_right<'a>(
@@ -212,6 +220,6 @@ fn read_right<'a>(
     ensures { AnswersOrWants IsOutOfMemory path_at result
         (right_side (implied (unary (nested room))) kind (state_of left) (tokens_at cursor.entry)) }
 {
-    let (right, rest) = level_state(alloc, Level::Implication, room, cursor)?;
+    let (right, rest) = read_state(alloc, room, cursor)?;
     Ok((kind, left, right, rest))
 }

@@ -37,10 +37,10 @@ abbrev pub is_long_sign : ℕ → ℕ → Bool
 is_long_sign b c = (b == 60 && (c == 60 || c == 61)) || (b == 62 && (c == 62 || c == 61))
     || (b == 61 && (c == 62 || c == 63))
 
--- The byte is `<`, `>`, `,`, `[`, `]`, `(`, `)`, `!`, `&` or `|`.
+-- The byte is `<`, `>`, `,`, `[`, `]`, `(`, `)`, `{`, `}`, `!`, `&` or `|`.
 abbrev pub is_short_sign : ℕ → Bool
-is_short_sign b = b == 60 || b == 62 || b == 44 || b == 91 || b == 93 || b == 40 || b == 41 || b == 33 || b ==
-    38 || b == 124
+is_short_sign b = b == 60 || b == 62 || b == 44 || b == 91 || b == 93 || b == 40 || b == 41 || b == 123 || b == 125
+    || b == 33 || b == 38 || b == 124
 
 -- These definitions are about the front of a text.
 

@@ -139,7 +139,9 @@ fn one_sign(first: u8) -> Front
     ensures within { Fits result 1 }
 {
     match first {
-        b'<' | b'>' | b',' | b'[' | b']' | b'(' | b')' | b'!' | b'&' | b'|' => Front::Spelling(1),
+        b'<' | b'>' | b',' => Front::Spelling(1),
+        b'[' | b']' | b'(' | b')' | b'{' | b'}' => Front::Spelling(1),
+        b'!' | b'&' | b'|' => Front::Spelling(1),
         _ => Front::Strange,
     }
 }
