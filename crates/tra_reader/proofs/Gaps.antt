@@ -21,7 +21,7 @@ use Rattle.tra_reader.specs.inside.GrowingGames.{LeadsInside}
 use Rattle.tra_reader.specs.inside.GrowingGames.{AreCounted, AreDrafted, HaveFault, HasGap, IsMade, IsWhole}
 use Rattle.tra_reader.specs.inside.GrowingGames.{place_behind, NoneBetween, AreWholeBefore, IsReady, IfBuilds}
 use Rattle.tra_reader.specs.inside.GrowingGames.{IsAsStated}
-use Rattle.transition_lines.proofs.Decisions.{cases_lt}
+use Rattle.std.proofs.lemmas.Bool.{cases_lt}
 use Rattle.transition_lines.proofs.Ends.{AreSmall, none_of_high, above_of, one_missing, gap_here, gap_stays}
 
 -- the choices from here on are missing before one that is there

@@ -1,7 +1,7 @@
 -- The edges of a choice lead where its parts do.
 use Rattle.std.proofs.Common.{◌≡◌, ◌∙◌, ◌<◌, ◌≤◌, inl, inr, ℕ, zero, suc, ◌+◌, ◌*◌, ◌/◌, ◌==◌, cond, List, [], ◌∷◌}
 use Rattle.std.proofs.Common.{length, map, get_or, refl, ap, arith, sum_by}
-use Rattle.std.proofs.lemmas.Bool.{eq-eqb}
+use Rattle.std.proofs.lemmas.Bool.{eq-eqb, cases_lt, ne_eqb}
 use Rattle.std.proofs.lemmas.List.Sums.{sum_by-cons}
 use Rattle.std.specs.List.{All}
 use Rattle.game_model.specs.declared.game.Edge.{Edge}
@@ -10,7 +10,6 @@ use Rattle.distributions.specs.Parts.{DenotesChoice, weighted}
 use Rattle.transition_lines.specs.declared.line.Transition.{Transition}
 use Rattle.transition_lines.specs.Choices.{part_of}
 use Rattle.tra_reader.specs.inside.GrowingGames.{LeadsInside}
-use Rattle.transition_lines.proofs.Decisions.{cases_lt, below_ne}
 
 at_least : {X : Type 0} (f : X → ℕ) (xs : List X) (i : ℕ) (d : X) → i < length xs → f (get_or xs i d) ≤ sum_by f xs
 at_least f [] i d h = absurd (omega arith)
@@ -25,7 +24,7 @@ no_weight common n to (t ∷ ts) all h =
     sum_by-cons (λ (e : Edge). cond (e.to == to) e.weight 0)
     (record { to = t.destination; weight = t.share.num * common / t.share.den }) (weighted common (map part_of ts))
     ∙ ap (λ b. cond b (t.share.num * common / t.share.den) 0 + weight_to (weighted common (map part_of ts)) to)
-    (below_ne t.destination to (omega (arith, here, h)))
+    (ne_eqb t.destination to (λ e. omega (arith, e, here, h)))
     ∙ zero_sum (weight_to (weighted common (map part_of ts)) to)
     (no_weight common n to ts (λ k d g. all (suc k) d (omega arith)) h)
   where

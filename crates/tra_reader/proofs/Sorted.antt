@@ -5,7 +5,7 @@ use Rattle.transition_lines.specs.Limits.{most_stated_choices}
 use Rattle.transition_lines.specs.declared.line.Transition.{Transition}
 use Rattle.transition_lines.specs.Choices.{transitions_of}
 use Rattle.transition_lines.specs.Order.{From, has, place_of, transition_place}
-use Rattle.transition_lines.proofs.Decisions.{cases_lt}
+use Rattle.std.proofs.lemmas.Bool.{cases_lt}
 use Rattle.transition_lines.proofs.Ends.{AreSmall, of_at, none_of_high}
 
 pub same_transitions : (ts us : List Transition) → AreSmall ts → AreSmall us

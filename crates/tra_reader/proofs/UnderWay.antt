@@ -1,7 +1,7 @@
 -- The action of a choice that is under way, and that of one that begins.
 use Rattle.std.proofs.Common.{◌≡◌, ◌∙◌, ◌<◌, ◌≤◌, ℕ, zero, suc, not, Bool, true, false, IsTrue, ◌↔◌, cond, List, []}
 use Rattle.std.proofs.Common.{◌∷◌, ◌++◌, length, Option, Some, None, option_map, slice_get, refl, sym, ap, arith}
-use Rattle.std.proofs.lemmas.Bool.{eq-eqb}
+use Rattle.std.proofs.lemmas.Bool.{eq-eqb, ne_eqb}
 use Rattle.std.proofs.lemmas.List.{length_push, same_from_push}
 use Rattle.std.specs.List.{filter, All}
 use Rattle.std.specs.Option.{option_map_or}
@@ -14,7 +14,6 @@ use Rattle.transition_lines.specs.Order.{has, transition_place}
 use Rattle.transition_lines.specs.Answers.{row_place, action_at}
 use Rattle.tra_reader.specs.inside.GrowingGames.{Growing, HoldsInOrder, place_under_way}
 use Rattle.tra_reader.specs.inside.ActionUnderWay.{IsActionUnderWay, ComparesAction}
-use Rattle.transition_lines.proofs.Decisions.{below_ne}
 use Rattle.tra_reader.proofs.Noting.{noted_stays, newly_noted}
 
 -- no row stands at a place above all
@@ -24,7 +23,7 @@ none_above [] place q upto above = refl
 none_above (row ∷ rows) place q upto above =
     ap (λ b. option_map (λ (r : Row). r.action)
     (slice_get (cond b (row ∷ filter (has row_place q) rows) (filter (has row_place q) rows)) 0))
-    (below_ne (row_place row) q here)
+    (ne_eqb (row_place row) q (λ e. omega (arith, e, here)))
     ∙ none_above rows place q (λ k d h. upto (suc k) d (omega arith)) above
   where
     here : row_place row < q

@@ -1,7 +1,7 @@
 -- One choice more is whole, and one state more.
 use Rattle.std.proofs.Common.{◌≡◌, ◌∙◌, ◌<◌, ◌≤◌, inl, inr, ℕ, zero, suc, ◌+◌, cond, List, [], ◌∷◌, ◌++◌, length}
 use Rattle.std.proofs.Common.{Option, None, Some, Ok, Err, refl, sym, ap, ap₂, subst, arith, add-one, add-zero}
-use Rattle.std.proofs.lemmas.Bool.{eq-eqb, ne_eqb}
+use Rattle.std.proofs.lemmas.Bool.{eq-eqb, ne_eqb, cases_lt, lt-ltb, le-ltb}
 use Rattle.std.proofs.lemmas.List.{length-map, length_push, nil_from_length}
 use Rattle.std.proofs.lemmas.List.Elements.{All-cons, All-filter, All-push, All-weaker}
 use Rattle.std.specs.List.{All}
@@ -28,7 +28,6 @@ use Rattle.transition_lines.specs.Order.{IsWithin}
 use Rattle.tra_reader.specs.inside.GrowingGames.{LeadsInside}
 use Rattle.tra_reader.specs.inside.GrowingGames.{AreCounted, AreDrafted, HaveFault, IsMade, IsBuilt, IsChoiceFault}
 use Rattle.tra_reader.specs.inside.GrowingGames.{progress_of, ended}
-use Rattle.transition_lines.proofs.Decisions.{cases_lt, lt_test, ge_test}
 use Rattle.transition_lines.proofs.Ends.{end_is, none_missing, no_gap}
 use Rattle.tra_reader.proofs.Inside.{inside}
 
@@ -234,7 +233,7 @@ ends_counted crowded next ts s k count none is are =
     counted_state crowded next ts s k count (end_here crowded ts s k count none are) is are
 
 not_crowded : (s k : ℕ) → k ≤ most_choices → if_crowded s k ≡ None
-not_crowded s k few = ap (λ b. cond b (Some s) None) (ge_test most_choices k few)
+not_crowded s k few = ap (λ b. cond b (Some s) None) (le-ltb most_choices k few)
 
 -- the state ends and is built
 pub built_state : (n : ℕ) (ts : List Transition) (s k count : ℕ) (draft : Draft) → s < n → k ≤ most_choices
@@ -261,7 +260,7 @@ pub crowded_state : (ts : List Transition) (s k count : ℕ) → most_choices < 
     → ((j : ℕ) → k ≤ j → transitions_of ts s j ≡ []) → AreCounted None ts s k count
     → AreCounted (Some s) ts (s + 1) 0 count
 crowded_state ts s k count many none are =
-    ends_counted None (Some s) ts s k count none (ap (λ b. cond b (Some s) None) (lt_test most_choices k many)) are
+    ends_counted None (Some s) ts s k count none (ap (λ b. cond b (Some s) None) (lt-ltb most_choices k many)) are
 
 -- a state with too many choices behind one, or behind a gap
 pub later_state : (n : ℕ) (ts : List Transition) (s k count : ℕ) (progress : Progress)

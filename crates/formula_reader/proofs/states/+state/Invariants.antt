@@ -26,13 +26,16 @@ abbrev pub decreases-read_sides : goal.decreases-read_sides
 decreases-read_sides l = 16 * l.room
 
 abbrev pub decreases-read_path : goal.decreases-read_path
-decreases-read_path l = 16 * l.room + 11
+decreases-read_path l = 16 * l.room + 12
 
 abbrev pub decreases-read_reached : goal.decreases-read_reached
-decreases-read_reached l = 16 * l.room + 10
+decreases-read_reached l = 16 * l.room + 11
 
 abbrev pub decreases-read_right : goal.decreases-read_right
-decreases-read_right l = 16 * l.room + 9
+decreases-read_right l = 16 * l.room + 10
+
+abbrev pub decreases-read_state : goal.decreases-read_state
+decreases-read_state l = 16 * l.room + 9
 
 abbrev pub invariant-level_state-loop-after : goal.invariant-level_state-loop-after
 invariant-level_state-loop-after l =
