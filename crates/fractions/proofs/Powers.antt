@@ -49,3 +49,16 @@ few_powers i j hi hj =
       mul-le-mul_right (5 ^ j) (pow-rises 2 i 23 (omega arith) hi),
       mul-le-mul_left (2 ^ 23) (pow-rises 5 j 23 (omega arith) hj),
     )
+
+-- a digit and at most 18 behind it
+pub places_room : (d n : ℕ) → d ≤ 9 → n ≤ 18 → (d + 1) * 10 ^ n ≤ 10 ^ 19
+places_room d n h few =
+    let power : 10 ^ n ≤ 10 ^ 18 = pow-rises 10 n 18 (omega arith) few in
+    omega (arith, mul-le-mul_left 10 power, (let most : d + 1 ≤ 10 = omega arith in mul-le-mul_right (10 ^ n) most))
+
+-- one power of ten more
+pub next_power : (den i : ℕ) → den ≡ 10 ^ i → den * 10 ≡ 10 ^ (i + 1)
+next_power den i is = ap (λ n. n * 10) is ∙ sym (ap (λ n. 10 ^ n) (add-one i) ∙ pow-suc 10 i)
+
+pub power_fits : (den i n : ℕ) → den ≡ 10 ^ i → i < n → n ≤ 18 → den * 10 ≤ 10 ^ 18
+power_fits den i n is h few = omega (arith, next_power den i is, pow-rises 10 (i + 1) 18 (omega arith) (omega arith))
