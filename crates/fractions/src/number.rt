@@ -29,7 +29,7 @@ pub enum NumberFault {
 }
 
 // Returns the fraction of a decimal.
-#[tactic(auto, using(numerals::proofs::Spelled::digits_room, numerals::proofs::Spelled::digits_room_behind, numerals::proofs::Spelled::power_room, numerals::proofs::Spelled::value_append))]
+#[tactic(auto, using(numerals::proofs::Spelled::rooms))]
 fn point_fraction(front: &[u8], back: &[u8], power: Power<'_>) -> Result<Frac, NumberFault>
     requires front { all_digits front.now ≡ true }
     requires back { all_digits back.now ≡ true }

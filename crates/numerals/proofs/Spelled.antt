@@ -79,3 +79,6 @@ power_room n h = omega (arith, pow-le-pow_right {n = 10} (omega arith) h)
 pub value_append : (v : ℕ) (front back : List ℕ) → value_onto v (front ++ back) ≡ value_onto (value_onto v front) back
 value_append v [] back = refl
 value_append v (b ∷ front) back = value_append (10 * v + (b - 48)) front back
+
+-- digits have room where they are few
+pub ruleset rooms = (digits_room, digits_room_behind, power_room, value_append)
