@@ -1,9 +1,8 @@
 -- Common denominators.
 use Rattle.std.proofs.Common.{◌≡◌, ◌∙◌, ◌<◌, ◌≤◌, ◌+◌, ◌*◌, ◌/◌, inl, inr, ℕ, suc, List, [], ◌∷◌, refl, ap, sym, subst}
-use Rattle.std.proofs.Common.{false, cond, length, get_or, drop, add-one, arith, Result, Ok, Err}
+use Rattle.std.proofs.Common.{cond, length, get_or, drop, add-one, arith, Result, Ok, Err}
 use Prim.Native.Nat.{◌∣◌}
 use Rattle.std.specs.Prelude.{All, nat_lt}
-use Rattle.std.proofs.lemmas.Bool.Decides.{nat_tests}
 use Rattle.std.proofs.lemmas.List.Elements.{All-nil, All-cons}
 use Rattle.std.proofs.lemmas.Nat.Gcd.{dvd_refl, dvd_trans, dvd_antisymm, le_of_dvd}
 use Rattle.std.proofs.Math.Nat.{one-dvd, mul-div_assoc, mul-div_cancel', mul-le-mul_right}
