@@ -1,9 +1,8 @@
 -- The reward that is said of a text is the one that it denotes.
-use Rattle.std.proofs.Common.{◌≡◌, ◌∙◌, ◌≤◌, ◌*◌, inl, inr, ℕ, List, refl, ap, subst, false, cond, Option}
+use Rattle.std.proofs.Common.{◌≡◌, ◌∙◌, ◌≤◌, ◌*◌, inl, inr, ℕ, List, refl, ap, subst, cond, Option}
 use Rattle.std.proofs.Common.{Some, None}
-use Rattle.std.proofs.Common.{Result, Ok, Err, arith}
+use Rattle.std.proofs.Common.{Result, Ok, Err}
 use Rattle.std.specs.Prelude.{◌==◌, nat_lt}
-use Rattle.std.proofs.lemmas.Bool.Decides.{nat_tests}
 use Rattle.std.proofs.lemmas.Bool.{ltb-false}
 use Rattle.fractions.specs.declared.number.NumberFault.TheVariants as number
 use Rattle.fractions.specs.Limits.{finest}

@@ -1,9 +1,8 @@
 -- What is said of a number and of a reward.
 use Rattle.std.proofs.Common.{◌≡◌, ◌≢◌, ◌∙◌, ◌≤◌, ◌<◌, ◌+◌, ◌-◌, ◌*◌, ◌^◌, inl, inr, ℕ, suc, zero, List, refl, ap}
-use Rattle.std.proofs.Common.{sym, Bool, true, false, cond, Option, Some, None, Result, Ok, Err, length, arith}
+use Rattle.std.proofs.Common.{sym, true, false, cond, Option, Some, None, Result, Ok, Err, length, arith}
 use Rattle.std.specs.Prelude.{◌==◌, ◌||◌, nat_lt}
 use Rattle.std.proofs.lemmas.Bool.{cases_Bool, lt-ltb, le-ltb, ltb-false, ltb-true, or_parts}
-use Rattle.std.proofs.lemmas.Bool.Decides.{nat_tests}
 use Rattle.std.proofs.Math.Nat.{mul-le-mul_left, mul-le-mul_right}
 use Rattle.text_lines.specs.Text.{value_onto}
 use Rattle.fractions.specs.declared.number.NumberFault.{NumberFault}
