@@ -248,4 +248,5 @@ product_below bound a b le = omega (arith, mul-le-mul_right b le, div-mul-le_sel
 
 -- multiples of numbers of 64 bits, and of greater ones
 pub ruleset narrow_multiples = (lcm_above, lcm_below, lcm_by, gcd-pos)
+
 pub ruleset wide_multiples = (lcm_by, gcd-pos, product_above, product_below)

@@ -53,6 +53,7 @@ few_powers i j hi hj =
 
 -- products of powers, and those of few places
 pub ruleset products = (many_twos, many_fives, two_fits, five_fits, five_some, product_above, product_below)
+
 pub ruleset few_products = (few_powers, two_fits, five_fits)
 
 -- a digit and at most 18 behind it

@@ -1,8 +1,8 @@
 //! This crate takes numbers apart as texts spell them: a decimal with an exponent, for example `0.25` or `1e-05`, or a
 //! quotient, for example `1/3`.
 //!
-//! `read_spelling` gives the parts of the number that a text spells, if it spells one, and `digits_onto` the number that
-//! digits spell. Which numbers are refused is for the callers to say. No call takes memory.
+//! `read_spelling` gives the parts of the number that a text spells, if it spells one, and `digits_onto` the number
+//! that digits spell. Which numbers are refused is for the callers to say. No call takes memory.
 #![tactic(auto)]
 
 mod digits;

@@ -7,8 +7,8 @@ ghost use Rattle.rewards_reader.specs.Texts.{lines_said};
 ghost use Rattle.rewards_reader.specs.inside.Kept.{IsRight};
 
 use crate::fault::{RewardsCause, RewardsEnd};
-use crate::table::RewardTable;
 use crate::kept::KeptLines;
+use crate::table::RewardTable;
 use game_model::Game;
 use std::alloc::Global;
 use text_lines::{LineReader, read_lines};

@@ -224,7 +224,8 @@ crowds_found ts (suc n) e s h =
     let P : ℕ → Type 0 = λ i. choice_end ts i ≤ most_choices in
     elim (cases_lt s n) [
       | inl lt ↦ crowds_found ts n both.0 s lt
-      | inr ge ↦ let same : n ≡ s = omega (arith, ge, h) in subst P same (ltb-false most_choices (choice_end ts n) both.1)
+      | inr ge ↦
+          let same : n ≡ s = omega (arith, ge, h) in subst P same (ltb-false most_choices (choice_end ts n) both.1)
     ]
   where
     both_none : (o : Option ℕ) (b : Bool) → option_or o (cond b (Some n) None) ≡ None → (o ≡ None) × (b ≡ false)
