@@ -5,6 +5,7 @@ use Rattle.std.specs.Prelude.{nat_lt}
 use Prim.Native.Nat.{◌∣◌}
 use Rattle.std.specs.List.Sorted.{IsPermutation}
 use Rattle.std.proofs.lemmas.List.Sorted.{All-permutation, sum_by-IsPermutation, IsPermutation-map, IsPermutation-sym}
+use Rattle.std.proofs.lemmas.Bool.{le-ltb, ltb-false}
 use Rattle.game_model.specs.declared.game.Edge.{Edge}
 use Rattle.game_model.specs.Game.{Distribution, total_of}
 use Rattle.game_model.proofs.RisingEdges.{IsRising-from, weighty-from, RiseFrom-rising}
@@ -16,9 +17,9 @@ use Rattle.distributions.specs.Limits.{tolerance}
 use Rattle.distributions.specs.Parts.{edge_of_part, weighted, distance, DenotesChoice, denominator_said, gathered}
 use Rattle.distributions.specs.Parts.{sum_said, with_total, choice_over, choice_said}
 use Rattle.distributions.proofs.Gathering.{gives, gathered-rises, gathered-weights, gathered-only}
-use Rattle.distributions.proofs.Multiples.{AreKept, over, over-is, ge-from, ge-test, common-same, denominator-found}
+use Rattle.distributions.proofs.Multiples.{AreKept, over, over-is, common-same, denominator-found}
 use Rattle.distributions.proofs.Multiples.{denominator-again, denominator-is}
-use Rattle.fractions.proofs.Grammar.{chosen}
+use Rattle.numerals.proofs.Grammar.{chosen}
 
 ok-same : (d e : Distribution) → ◌≡◌ {A = Result Distribution ChoiceFault} (Ok d) (Ok e) → d ≡ e
 ok-same d e h = cc
@@ -41,7 +42,7 @@ found-over parts d (Ok common) kept said is =
             weighty = weighty-from 0 edges (gathered-rises (weighted common parts));
             weights = gathered-weights (weighted common parts);
             total = refl;
-            near_one = ge-from common (distance (total_of edges) common * tolerance) t.0;
+            near_one = ltb-false common (distance (total_of edges) common * tolerance) t.0;
           })
     ]
 
@@ -64,7 +65,7 @@ choice-again parts d kept h =
     ap (λ r. choice_over r parts) said
     ∙ ap (λ es. sum_said h.common es) edges
     ∙ ap (λ b. cond b (Err (BadSum (total_of d.edges) h.common)) (Ok (distribution (total_of d.edges))))
-    (ge-test h.common (distance (total_of d.edges) h.common * tolerance) near)
+    (le-ltb h.common (distance (total_of d.edges) h.common * tolerance) near)
     ∙ ap (λ n. Ok (distribution n)) (sym h.total)
 
 -- the order of the parts plays no part

@@ -1,13 +1,13 @@
 -- Common denominators.
 use Rattle.std.proofs.Common.{◌≡◌, ◌∙◌, ◌<◌, ◌≤◌, ◌+◌, ◌*◌, ◌/◌, inl, inr, ℕ, suc, List, [], ◌∷◌, refl, ap, sym, subst}
-use Rattle.std.proofs.Common.{false, cond, length, get_or, drop, add-one, arith, Result, Ok, Err}
+use Rattle.std.proofs.Common.{cond, length, get_or, drop, add-one, arith, Result, Ok, Err}
 use Prim.Native.Nat.{◌∣◌}
 use Rattle.std.specs.Prelude.{All, nat_lt}
-use Rattle.std.proofs.lemmas.Bool.Decides.{nat_tests}
 use Rattle.std.proofs.lemmas.List.Elements.{All-nil, All-cons}
 use Rattle.std.proofs.lemmas.Nat.Gcd.{dvd_refl, dvd_trans, dvd_antisymm, le_of_dvd}
 use Rattle.std.proofs.Math.Nat.{one-dvd, mul-div_assoc, mul-div_cancel', mul-le-mul_right}
 use Rattle.std.proofs.Math.Seq.{drop-cons}
+use Rattle.std.proofs.lemmas.Bool.{le-ltb, ltb-false}
 use Rattle.distributions.specs.declared.choice.Part.{Part}
 use Rattle.distributions.specs.declared.choice.ChoiceFault.{ChoiceFault}
 use Rattle.distributions.specs.declared.choice.ChoiceFault.TheVariants.{TooFine}
@@ -16,7 +16,7 @@ use Rattle.fractions.specs.Divisors.{lcm}
 use Rattle.fractions.specs.Fraction.{IsFraction}
 use Rattle.distributions.specs.Parts.{denominator_said, IsCommonDenominator}
 use Rattle.fractions.proofs.Euclid.{lcm-left, lcm-right, lcm-least, lcm-pos}
-use Rattle.fractions.proofs.Grammar.{chosen}
+use Rattle.numerals.proofs.Grammar.{chosen}
 
 pub lcm_some : (a b : ℕ) → 1 ≤ a → 1 ≤ b → 1 ≤ lcm a b
 lcm_some a b ha hb = lcm-pos a b ha hb
@@ -73,12 +73,6 @@ over-is parts kept = record {
   least = λ m each. over-least 1 parts m kept (one-dvd m) each;
 }
 
-pub ge-from : (a b : ℕ) → nat_lt a b ≡ false → b ≤ a
-ge-from a b e = grind (arith, nat_tests)
-
-pub ge-test : (a b : ℕ) → b ≤ a → nat_lt a b ≡ false
-ge-test a b h = grind (arith, nat_tests)
-
 ok-same : (a b : ℕ) → ◌≡◌ {A = Result ℕ ChoiceFault} (Ok a) (Ok b) → a ≡ b
 ok-same a b e = cc
 
@@ -92,7 +86,7 @@ denominator-found first (part ∷ parts) common fine is =
     (denominator_said (lcm first part.share.den) parts) (Ok common) is) [
       | inl t ↦ cc t.1
       | inr t ↦ denominator-found (lcm first part.share.den) parts common
-          (ge-from finest (lcm first part.share.den) t.0) t.1
+          (ltb-false finest (lcm first part.share.den) t.0) t.1
     ]
 
 pub denominator-again : (first : ℕ) (parts : List Part) → 1 ≤ first → AreKept parts → over first parts ≤ finest
@@ -105,7 +99,7 @@ denominator-again first (part ∷ parts) some kept fine =
     let within : next ≤ over next parts =
     le_of_dvd (over-pos next parts pos (tail part parts kept)) (over-first next parts (tail part parts kept)) in
     ap (λ b. cond b (Err (TooFine first part.share.den)) (denominator_said next parts))
-    (ge-test finest next (omega (arith, within, fine)))
+    (le-ltb finest next (omega (arith, within, fine)))
     ∙ denominator-again next parts pos (tail part parts kept) fine
 
 pub denominator-is : (parts : List Part) (common : ℕ) → AreKept parts → denominator_said 1 parts ≡ Ok common
@@ -140,7 +134,7 @@ denominator_step parts i common multiple part h is value fine =
     ap (λ n. denominator_said n (drop (i + 1) parts)) value
     ∙ sym (ap (λ ps. denominator_said common ps) split
     ∙ ap (λ b. cond b (Err (TooFine common part.share.den)) (denominator_said next (drop (i + 1) parts)))
-    (ge-test finest next within))
+    (le-ltb finest next within))
 
 -- a share of a part
 pub part_small : (parts : List Part) (i m : ℕ) (part : Part) → i < length parts → part ≡ get_or parts i part

@@ -221,9 +221,6 @@ gcd_step a b = gcd-from a b (gcd b (a % b)) (IsGcd-from_mod a b (gcd b (a % b)) 
 pub gcd_zero : (a : ℕ) → gcd a 0 ≡ a
 gcd_zero a = gcd-from a 0 a (IsGcd-from_zero a 0 refl)
 
-pub gcd_some : (a b : ℕ) → 1 ≤ b → 1 ≤ gcd a b
-gcd_some a b h = gcd-pos a b h
-
 pub lcm_by : (a b : ℕ) → lcm a b ≡ a / gcd a b * b
 unfolding lcm
 lcm_by a b = refl
@@ -248,3 +245,8 @@ product_above bound a b h less = (div-lt_iff_lt-mul h).0 less
 
 pub product_below : (bound a b : ℕ) → a ≤ bound / b → a * b ≤ bound
 product_below bound a b le = omega (arith, mul-le-mul_right b le, div-mul-le_self bound b)
+
+-- multiples of numbers of 64 bits, and of greater ones
+pub ruleset narrow_multiples = (lcm_above, lcm_below, lcm_by, gcd-pos)
+
+pub ruleset wide_multiples = (lcm_by, gcd-pos, product_above, product_below)

@@ -4,6 +4,7 @@ use Rattle.std.proofs.Math.Nat.{div-mul_cancel, dvd_of_mod-eq-zero, mul_comm, mu
 use Rattle.std.proofs.Math.Nat.{mul-le-mul_left, mul-le-mul_right}
 use Rattle.std.proofs.lemmas.Nat.{pow-add}
 use Rattle.fractions.specs.Limits.{finest}
+use Rattle.fractions.proofs.Euclid.{product_above, product_below}
 
 pub pow-pos : (a n : ℕ) → 1 ≤ a → 1 ≤ a ^ n
 pow-pos a zero h = omega (arith, pow-zero a)
@@ -49,3 +50,21 @@ few_powers i j hi hj =
       mul-le-mul_right (5 ^ j) (pow-rises 2 i 23 (omega arith) hi),
       mul-le-mul_left (2 ^ 23) (pow-rises 5 j 23 (omega arith) hj),
     )
+
+-- products of powers, and those of few places
+pub ruleset products = (many_twos, many_fives, two_fits, five_fits, five_some, product_above, product_below)
+
+pub ruleset few_products = (few_powers, two_fits, five_fits)
+
+-- a digit and at most 18 behind it
+pub places_room : (d n : ℕ) → d ≤ 9 → n ≤ 18 → (d + 1) * 10 ^ n ≤ 10 ^ 19
+places_room d n h few =
+    let power : 10 ^ n ≤ 10 ^ 18 = pow-rises 10 n 18 (omega arith) few in
+    omega (arith, mul-le-mul_left 10 power, (let most : d + 1 ≤ 10 = omega arith in mul-le-mul_right (10 ^ n) most))
+
+-- one power of ten more
+pub next_power : (den i : ℕ) → den ≡ 10 ^ i → den * 10 ≡ 10 ^ (i + 1)
+next_power den i is = ap (λ n. n * 10) is ∙ sym (ap (λ n. 10 ^ n) (add-one i) ∙ pow-suc 10 i)
+
+pub power_fits : (den i n : ℕ) → den ≡ 10 ^ i → i < n → n ≤ 18 → den * 10 ≤ 10 ^ 18
+power_fits den i n is h few = omega (arith, next_power den i is, pow-rises 10 (i + 1) 18 (omega arith) (omega arith))

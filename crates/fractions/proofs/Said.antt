@@ -3,28 +3,26 @@ use Rattle.std.proofs.Common.{◌≡◌, ◌∙◌, ◌≤◌, ◌+◌, ◌*◌,
 use Rattle.std.proofs.Common.{cond, Option, Some, None, Result, Ok, Err, length, arith}
 use Rattle.std.specs.Prelude.{◌==◌, nat_lt}
 use Rattle.std.proofs.lemmas.Bool.Decides.{nat_tests}
+use Rattle.std.proofs.lemmas.Bool.{le-ltb, ltb-false}
 use Rattle.fractions.specs.declared.number.NumberFault.{NumberFault}
 use Rattle.fractions.specs.declared.number.NumberFault.TheVariants.{TooManyDigits, ZeroDenominator, TooFine}
 use Rattle.fractions.specs.declared.number.NumberFault.TheVariants.{TooLarge}
 use Rattle.text_lines.specs.Text.{value_onto}
-use Rattle.fractions.specs.Limits.{finest, most_value, most_digits, most_exponent, most_exponent_digits}
+use Rattle.numerals.specs.Limits.{most_digits, most_exponent, most_exponent_digits}
+use Rattle.fractions.specs.Limits.{finest, most_value}
 use Rattle.fractions.specs.Fraction.{Fraction, IsFraction, SameValue, lowest}
-use Rattle.fractions.specs.Number.{Spelling, Decimal, value_of, is_long, DenotesNumber, in_range, fraction_said}
-use Rattle.fractions.specs.Number.{spelling_said, spelling_of, number_said}
+use Rattle.numerals.specs.Spelling.{Spelling, Decimal, is_long}
+use Rattle.fractions.specs.Number.{value_of, DenotesNumber, in_range, fraction_said}
+use Rattle.numerals.specs.Spelling.{spelling_of}
+use Rattle.fractions.specs.Number.{spelling_said, number_said}
 use Rattle.fractions.proofs.Euclid.{coprime-div, lowest-value, lowest-pos, lowest-is}
-use Rattle.fractions.proofs.Spelled.{value_append}
-use Rattle.fractions.proofs.Grammar.{chosen, spelling_of-found, spelling_of-again}
+use Rattle.numerals.proofs.Spelled.{value_append}
+use Rattle.numerals.proofs.Grammar.{chosen, spelling_of-found, spelling_of-again}
 
-ge-from : (a b : ℕ) → nat_lt a b ≡ false → b ≤ a
-ge-from a b e = grind (arith, nat_tests)
-
-ge-test : (a b : ℕ) → b ≤ a → nat_lt a b ≡ false
-ge-test a b h = grind (arith, nat_tests)
-
-some-from : (a : ℕ) → (a == 0) ≡ false → 1 ≤ a
+pub some-from : (a : ℕ) → (a == 0) ≡ false → 1 ≤ a
 some-from a e = grind (arith, nat_tests)
 
-some-test : (a : ℕ) → 1 ≤ a → (a == 0) ≡ false
+pub some-test : (a : ℕ) → 1 ≤ a → (a == 0) ≡ false
 some-test a h = grind (arith, nat_tests)
 
 ok-same : (f g : Fraction) → ◌≡◌ {A = Result Fraction NumberFault} (Ok f) (Ok g) → f ≡ g
@@ -44,14 +42,14 @@ in_range-found f g is =
         | inl u ↦ cc u.1
         | inr u ↦ record {
           same = ok-same f g u.1;
-          fine = ge-from finest f.den t.0;
-          small = ge-from (most_value * f.den) f.num u.0;
+          fine = ltb-false finest f.den t.0;
+          small = ltb-false (most_value * f.den) f.num u.0;
         }
       ]
     ]
 
 pub in_range-again : (f : Fraction) → f.den ≤ finest → f.num ≤ most_value * f.den → in_range f ≡ Ok f
-in_range-again f fine small = rw (ge-test finest f.den fine) (rw (ge-test (most_value * f.den) f.num small) refl)
+in_range-again f fine small = rw (le-ltb finest f.den fine) (rw (le-ltb (most_value * f.den) f.num small) refl)
 
 -- a value above the line and its fraction
 pub record IsSaid (v f : Fraction) : Type 0 where
@@ -122,8 +120,8 @@ pub point-said : (front back digits : List ℕ) (below : Bool) (all up down : �
 point-said front back digits below all up down few short small above is is-up is-down =
     let fraction : ℕ → ℕ → ℕ → Fraction = λ n u d. record { num = n * 10 ^ u; den = 10 ^ d } in
     let spelling : Spelling = Decimal front back (record { below = below; digits = digits }) in
-    let fits : is_long spelling ≡ false = rw (ge-test most_digits (length front + length back) few)
-    (rw (ge-test most_exponent_digits (length digits) short) (ge-test most_exponent (value_onto 0 digits) small)) in
+    let fits : is_long spelling ≡ false = rw (le-ltb most_digits (length front + length back) few)
+    (rw (le-ltb most_exponent_digits (length digits) short) (le-ltb most_exponent (value_onto 0 digits) small)) in
     sym (ap (λ b. cond b (Err TooManyDigits) (fraction_said (value_of spelling))) fits
     ∙ ap (λ v. fraction_said (fraction (value_onto 0 (front ++ back)) (cond v 0 (value_onto 0 digits))
     (length back + cond v (value_onto 0 digits) 0))) above

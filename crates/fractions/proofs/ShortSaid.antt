@@ -6,9 +6,10 @@ use Rattle.std.proofs.lemmas.List.{take_all, append-nil}
 use Rattle.text_lines.specs.Text.{is_digit, all_digits, value_onto}
 use Rattle.fractions.specs.declared.tens.Tens.{Tens}
 use Rattle.fractions.specs.Fraction.{Fraction}
-use Rattle.fractions.specs.inside.Written.{AreDecimal}
-use Rattle.fractions.specs.Number.{Decimal, Spells, no_exponent, fraction_said, spelling_said, number_said}
-use Rattle.fractions.proofs.Grammar.{spelling_of-again}
+use Rattle.fractions.specs.inside.Short.{AreDecimal}
+use Rattle.numerals.specs.Spelling.{Decimal, Spells, no_exponent}
+use Rattle.fractions.specs.Number.{fraction_said, spelling_said, number_said}
+use Rattle.numerals.proofs.Grammar.{spelling_of-again}
 use Rattle.fractions.proofs.Said.{point-said}
 
 -- what is said of a spelling of a digit and digits behind it

@@ -62,7 +62,7 @@ pub fn least_common_multiple(a: u128, b: u128) -> Option<u128>
 }
 
 // Returns the least common multiple of numbers of 64 bits: their product fits 128 bits.
-#[tactic(auto, using(crate::proofs::Euclid::lcm_above, crate::proofs::Euclid::lcm_below, crate::proofs::Euclid::lcm_by, crate::proofs::Euclid::gcd_some))]
+#[tactic(auto, using(crate::proofs::Euclid::narrow_multiples))]
 fn narrow_multiple(a: u64, b: u64) -> Option<u128>
     requires a_some { 1 ≤ a }
     requires b_some { 1 ≤ b }
@@ -83,7 +83,7 @@ fn narrow_multiple(a: u64, b: u64) -> Option<u128>
 }
 
 // Returns the least common multiple of greater numbers: a division says whether it is above the finest denominator.
-#[tactic(auto, using(crate::proofs::Euclid::lcm_by, crate::proofs::Euclid::gcd_some, crate::proofs::Euclid::product_above, crate::proofs::Euclid::product_below))]
+#[tactic(auto, using(crate::proofs::Euclid::wide_multiples))]
 fn wide_multiple(a: u128, b: u128) -> Option<u128>
     requires a_some { 1 ≤ a }
     requires b_some { 1 ≤ b }

@@ -1,25 +1,20 @@
 //! This module has the laws of numbers. Each function does nothing: its contract is the law.
 
-ghost use Rattle.std.specs.Prelude.{◌≡◌, ◌≤◌, ◌^◌, ◌↔◌, ℕ, List, Some, Ok};
+ghost use Rattle.std.specs.Prelude.{◌≡◌, ◌≤◌, ◌^◌, ◌↔◌, ℕ, List, Ok};
 ghost use Prim.Native.Nat.{◌∣◌};
 ghost use Rattle.std.specs.Int.{IsGcd};
 ghost use Rattle.fractions.specs.Divisors.{gcd, lcm};
-ghost use Rattle.fractions.specs.Limits.{finest, most_value, most_digits, most_exponent_digits, most_exponent};
+ghost use Rattle.fractions.specs.Limits.{finest, most_value};
 ghost use Rattle.fractions.specs.Fraction.{Fraction};
-ghost use Rattle.fractions.specs.Number.{Spelling, Spells, spelling_of, number_said, DenotesNumber};
+ghost use Rattle.fractions.specs.Number.{number_said, DenotesNumber};
 
-use crate::limits::{
-    FINEST, FINEST_PLACES, MOST_DIGITS, MOST_EXPONENT, MOST_EXPONENT_DIGITS, MOST_VALUE,
-};
+use crate::limits::{FINEST, FINEST_PLACES, MOST_VALUE};
 
 /// The limits of the code are the limits of the definitions.
 pub fn limits()
     ensures finest { FINEST ≡ finest }
     ensures finest_places { 10 ^ FINEST_PLACES ≡ finest }
     ensures most_value { MOST_VALUE ≡ most_value }
-    ensures most_digits { MOST_DIGITS ≡ most_digits }
-    ensures most_exponent_digits { MOST_EXPONENT_DIGITS ≡ most_exponent_digits }
-    ensures most_exponent { MOST_EXPONENT ≡ most_exponent }
 {}
 
 /// The greatest common divisor divides both numbers, and each number that divides both divides it.
@@ -31,11 +26,6 @@ pub fn greatest_common_divisors()
 pub fn least_common_multiples()
     ensures multiple { (a b : ℕ) → 1 ≤ b → (a ∣ lcm a b) × (b ∣ lcm a b) }
     ensures least { (a b m : ℕ) → 1 ≤ b → a ∣ m → b ∣ m → lcm a b ∣ m }
-{}
-
-/// A text is taken apart as the grammar spells it, so it has at most one spelling.
-pub fn spellings()
-    ensures { (text : List ℕ) (spelling : Spelling) → (spelling_of text ≡ Some spelling) ↔ Spells text spelling }
 {}
 
 /// The number that the cases give for a text is the number that the text denotes.

@@ -14,9 +14,7 @@ mod number;
 mod short;
 mod tens;
 
-pub use divisors::{MOST_NARROW, least_common_multiple};
+pub use divisors::{MOST_NARROW, greatest_common_divisor, least_common_multiple};
 pub use fraction::{Frac, compare};
-pub use limits::{
-    FINEST, FINEST_PLACES, MOST_DIGITS, MOST_EXPONENT, MOST_EXPONENT_DIGITS, MOST_VALUE,
-};
+pub use limits::{FINEST, FINEST_PLACES, MOST_VALUE};
 pub use number::{NumberFault, read_number};

@@ -81,7 +81,7 @@ fn without(number: u128, factor: u128, most: u32) -> Rest
 }
 
 // Returns a product of powers of two and of five, unless it is above the finest denominator.
-#[tactic(auto, using(crate::proofs::Powers::many_twos, crate::proofs::Powers::many_fives, crate::proofs::Powers::two_fits, crate::proofs::Powers::five_fits, crate::proofs::Powers::five_some, crate::proofs::Euclid::product_above, crate::proofs::Euclid::product_below))]
+#[tactic(auto, using(crate::proofs::Powers::products))]
 fn powers(twos: u32, fives: u32) -> Option<u128>
     ensures value { MatchOption result (finest < 2 ^ twos * 5 ^ fives) (λ m. m ≡ 2 ^ twos * 5 ^ fives) }
 {
@@ -100,7 +100,7 @@ fn powers(twos: u32, fives: u32) -> Option<u128>
 }
 
 // Returns the same product. Most decimals need no test by a division.
-#[tactic(auto, using(crate::proofs::Powers::few_powers, crate::proofs::Powers::two_fits, crate::proofs::Powers::five_fits))]
+#[tactic(auto, using(crate::proofs::Powers::few_products))]
 fn denominator(twos: u32, fives: u32) -> Option<u128>
     ensures value { MatchOption result (finest < 2 ^ twos * 5 ^ fives) (λ m. m ≡ 2 ^ twos * 5 ^ fives) }
 {

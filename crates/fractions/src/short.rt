@@ -3,7 +3,7 @@
 
 ghost use Rattle.std.specs.Prelude.{◌≡◌, IfSome};
 ghost use Rattle.fractions.specs.Number.{number_said, fraction_said};
-ghost use Rattle.fractions.specs.inside.Written.{AreDecimal};
+ghost use Rattle.fractions.specs.inside.Short.{AreDecimal};
 
 use crate::tens::Tens;
 

@@ -1,26 +1,22 @@
 -- The reward that is said of a text is the one that it denotes.
-use Rattle.std.proofs.Common.{◌≡◌, ◌∙◌, ◌≤◌, ◌*◌, inl, inr, ℕ, List, refl, ap, subst, false, cond, Option}
+use Rattle.std.proofs.Common.{◌≡◌, ◌∙◌, ◌≤◌, ◌*◌, inl, inr, ℕ, List, refl, ap, subst, cond, Option}
 use Rattle.std.proofs.Common.{Some, None}
-use Rattle.std.proofs.Common.{Result, Ok, Err, arith}
+use Rattle.std.proofs.Common.{Result, Ok, Err}
 use Rattle.std.specs.Prelude.{◌==◌, nat_lt}
-use Rattle.std.proofs.lemmas.Bool.Decides.{nat_tests}
+use Rattle.std.proofs.lemmas.Bool.{ltb-false}
 use Rattle.fractions.specs.declared.number.NumberFault.TheVariants as number
 use Rattle.fractions.specs.Limits.{finest}
 use Rattle.fractions.specs.Fraction.{Fraction, SameValue, lowest}
-use Rattle.fractions.specs.Number.{Spelling, value_of, is_long, spelling_of}
+use Rattle.numerals.specs.Spelling.{Spelling, is_long, spelling_of}
+use Rattle.fractions.specs.Number.{value_of}
 use Rattle.fractions.proofs.Euclid.{coprime-div, lowest-value, lowest-pos, lowest-is}
-use Rattle.fractions.proofs.Grammar.{chosen, spelling_of-found, spelling_of-again}
+use Rattle.fractions.proofs.Said.{some-from}
+use Rattle.numerals.proofs.Grammar.{chosen, spelling_of-found, spelling_of-again}
 use Rattle.rewards_reader.specs.declared.fault.RewardsCause.{RewardsCause}
 use Rattle.rewards_reader.specs.declared.fault.RewardsCause.TheVariants.{Number, TooLarge}
 use Rattle.rewards_reader.specs.Limits.{most_reward}
 use Rattle.rewards_reader.specs.Amounts.{IsAmount, DenotesAmount, amount_within, amount_of, spelled_amount, amount_said}
 use Rattle.rewards_reader.proofs.Amounts.{within-again, amount-above_zero, short-amount}
-
-ge-from : (a b : ℕ) → nat_lt a b ≡ false → b ≤ a
-ge-from a b e = grind (arith, nat_tests)
-
-some-from : (a : ℕ) → (a == 0) ≡ false → 1 ≤ a
-some-from a e = grind (arith, nat_tests)
 
 same-amount : (f g : Fraction) → ◌≡◌ {A = Result Fraction RewardsCause} (Ok f) (Ok g) → f ≡ g
 same-amount f g e = cc
@@ -39,8 +35,8 @@ within-found f g is =
         | inl u ↦ cc u.1
         | inr u ↦ record {
           same = same-amount f g u.1;
-          fine = ge-from finest f.den t.0;
-          small = ge-from (most_reward * f.den) f.num u.0;
+          fine = ltb-false finest f.den t.0;
+          small = ltb-false (most_reward * f.den) f.num u.0;
         }
       ]
     ]

@@ -1,45 +1,33 @@
 -- What is said of a number and of a reward.
 use Rattle.std.proofs.Common.{◌≡◌, ◌≢◌, ◌∙◌, ◌≤◌, ◌<◌, ◌+◌, ◌-◌, ◌*◌, ◌^◌, inl, inr, ℕ, suc, zero, List, refl, ap}
-use Rattle.std.proofs.Common.{sym, Bool, true, false, cond, Option, Some, None, Result, Ok, Err, length, arith}
+use Rattle.std.proofs.Common.{sym, true, false, cond, Option, Some, None, Result, Ok, Err, length, arith}
 use Rattle.std.specs.Prelude.{◌==◌, ◌||◌, nat_lt}
-use Rattle.std.proofs.lemmas.Bool.{cases_Bool, lt-ltb}
-use Rattle.std.proofs.lemmas.Bool.Decides.{nat_tests}
+use Rattle.std.proofs.lemmas.Bool.{cases_Bool, lt-ltb, le-ltb, ltb-false, ltb-true, or_parts}
 use Rattle.std.proofs.Math.Nat.{mul-le-mul_left, mul-le-mul_right}
 use Rattle.text_lines.specs.Text.{value_onto}
 use Rattle.fractions.specs.declared.number.NumberFault.{NumberFault}
 use Rattle.fractions.specs.declared.number.NumberFault.TheVariants as number
-use Rattle.fractions.specs.Limits.{finest, most_value, most_digits, most_exponent, most_exponent_digits}
+use Rattle.numerals.specs.Limits.{most_digits, most_exponent, most_exponent_digits}
+use Rattle.fractions.specs.Limits.{finest, most_value}
 use Rattle.fractions.specs.Fraction.{Fraction, lowest}
-use Rattle.fractions.specs.Number.{Exponent, Spelling, Decimal, Quotient, value_of, is_long, in_range, fraction_said}
-use Rattle.fractions.specs.Number.{spelling_said, spelling_of, number_said}
+use Rattle.numerals.specs.Spelling.{Exponent, Spelling, Decimal, Quotient, is_long}
+use Rattle.fractions.specs.Number.{value_of, in_range, fraction_said}
+use Rattle.numerals.specs.Spelling.{spelling_of}
+use Rattle.fractions.specs.Number.{spelling_said, number_said}
 use Rattle.fractions.proofs.Euclid.{lowest-value}
-use Rattle.fractions.proofs.Grammar.{chosen}
+use Rattle.numerals.proofs.Grammar.{chosen}
 use Rattle.fractions.proofs.Powers.{pow-pos, pow-rises}
-use Rattle.fractions.proofs.Spelled.{value_append}
+use Rattle.numerals.proofs.Spelled.{value_append}
 use Rattle.fractions.proofs.Terms.{lowest-shifted, lowest-whole, said-above_zero}
+use Rattle.fractions.proofs.Said.{some-from, some-test}
 use Rattle.rewards_reader.specs.declared.fault.RewardsCause.TheVariants.{Number, TooLarge}
 use Rattle.rewards_reader.specs.Limits.{most_reward}
 use Rattle.rewards_reader.specs.Amounts.{amount_within, amount_of, spelled_amount, amount_said}
 
-ge-from : (a b : ℕ) → nat_lt a b ≡ false → b ≤ a
-ge-from a b e = grind (arith, nat_tests)
-
-lt-from : (a b : ℕ) → nat_lt a b ≡ true → a < b
-lt-from a b e = grind (arith, nat_tests)
-
-ge-test : (a b : ℕ) → b ≤ a → nat_lt a b ≡ false
-ge-test a b h = grind (arith, nat_tests)
-
-some-from : (a : ℕ) → (a == 0) ≡ false → 1 ≤ a
-some-from a e = grind (arith, nat_tests)
-
-some-test : (a : ℕ) → 1 ≤ a → (a == 0) ≡ false
-some-test a h = grind (arith, nat_tests)
-
 -- 1. A number from 0 to 2 is a reward, and the other faults of a number are those of a reward.
 
 pub within-again : (f : Fraction) → f.den ≤ finest → f.num ≤ most_reward * f.den → amount_within f ≡ Ok f
-within-again f fine small = rw (ge-test finest f.den fine) (rw (ge-test (most_reward * f.den) f.num small) refl)
+within-again f fine small = rw (le-ltb finest f.den fine) (rw (le-ltb (most_reward * f.den) f.num small) refl)
 
 range-amount : (g f : Fraction) → in_range g ≡ Ok f → amount_within g ≡ Ok f
 range-amount g f is =
@@ -48,7 +36,7 @@ range-amount g f is =
       | inl t ↦ cc t.1
       | inr t ↦ elim (chosen (nat_lt (most_value * g.den) g.num) (Err number.TooLarge) (Ok g) (Ok f) t.1) [
         | inl u ↦ cc u.1
-        | inr u ↦ within-again g (ge-from finest g.den t.0) (omega (arith, ge-from (most_value * g.den) g.num u.0))
+        | inr u ↦ within-again g (ltb-false finest g.den t.0) (omega (arith, ltb-false (most_value * g.den) g.num u.0))
             ∙ ap (λ h. Ok h) (same-number g f u.1)
       ]
     ]
@@ -136,8 +124,8 @@ range-large v some is =
           (Ok (lowest v)) (Err number.TooLarge) t.1) [
             | inl u ↦ record {
               divided = some;
-              fine = ge-from finest (lowest v).den t.0;
-              above = lt-from (most_value * (lowest v).den) (lowest v).num u.0;
+              fine = ltb-false finest (lowest v).den t.0;
+              above = ltb-true (most_value * (lowest v).den) (lowest v).num u.0;
             }
             | inr u ↦ cc u.1
           ]
@@ -154,12 +142,12 @@ large-found v is =
 pub large-above : (v : Fraction) → IsLarge v → 2 * v.den < v.num
 large-above v h =
     elim (cases_Bool (nat_lt (2 * v.den) v.num)) [
-      | inl t ↦ lt-from (2 * v.den) v.num t
+      | inl t ↦ ltb-true (2 * v.den) v.num t
       | inr f ↦
           let first : (2 * (lowest v).den + 1) * v.den ≤ (lowest v).num * v.den =
           mul-le-mul_right v.den (omega (arith, h.above)) in
           let second : v.num * (lowest v).den ≤ (2 * v.den) * (lowest v).den =
-          mul-le-mul_right (lowest v).den (ge-from (2 * v.den) v.num f) in
+          mul-le-mul_right (lowest v).den (ltb-false (2 * v.den) v.num f) in
           absurd (omega (arith, first, second, lowest-value v h.divided, h.divided))
     ]
 
@@ -175,10 +163,6 @@ large-spelled s is =
 pub short-amount : (s : Spelling) → is_long s ≡ false → spelled_amount (Some s) ≡ amount_of (value_of s)
 short-amount s short = ap (λ b. cond b (Err (Number number.TooManyDigits)) (amount_of (value_of s))) short
 
-or-false : (a b : Bool) → (a || b) ≡ false → (a ≡ false) × (b ≡ false)
-or-false true b e = cc
-or-false false b e = (refl, e)
-
 -- a decimal has no more digits than may be read
 pub record IsShort (front back digits : List ℕ) : Type 0 where
   pub few : length front + length back ≤ most_digits
@@ -188,17 +172,17 @@ pub record IsShort (front back digits : List ℕ) : Type 0 where
 pub short-decimal : (front back : List ℕ) (e : Exponent) → is_long (Decimal front back e) ≡ false
     → IsShort front back e.digits
 short-decimal front back e is =
-    let parts = or-false (nat_lt most_digits (length front + length back))
+    let parts = or_parts (nat_lt most_digits (length front + length back))
     (nat_lt most_exponent_digits (length e.digits) || nat_lt most_exponent (value_onto 0 e.digits)) is in
-    let power = or-false (nat_lt most_exponent_digits (length e.digits)) (nat_lt most_exponent (value_onto 0 e.digits))
+    let power = or_parts (nat_lt most_exponent_digits (length e.digits)) (nat_lt most_exponent (value_onto 0 e.digits))
     parts.1 in
-    record { few = ge-from _ _ parts.0; short = ge-from _ _ power.0; small = ge-from _ _ power.1 }
+    record { few = ltb-false _ _ parts.0; short = ltb-false _ _ power.0; small = ltb-false _ _ power.1 }
 
 pub short-quotient : (above below : List ℕ) → is_long (Quotient above below) ≡ false
     → (length above ≤ most_digits) × (length below ≤ most_digits)
 short-quotient above below is =
-    let parts = or-false (nat_lt most_digits (length above)) (nat_lt most_digits (length below)) is in
-    (ge-from _ _ parts.0, ge-from _ _ parts.1)
+    let parts = or_parts (nat_lt most_digits (length above)) (nat_lt most_digits (length below)) is in
+    (ltb-false _ _ parts.0, ltb-false _ _ parts.1)
 
 abbrev scaled : ℕ → ℕ → ℕ → Fraction
 scaled digits up down = record { num = digits * 10 ^ up; den = 10 ^ down }

@@ -3,5 +3,4 @@ pub mod Amounts
 pub mod LineLaws
 pub mod Places
 pub mod Right
-pub mod Spellings
 pub mod TextLaws

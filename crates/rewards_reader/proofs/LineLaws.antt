@@ -1,14 +1,14 @@
 -- A header and a line that are said of fields are those that the fields spell.
-use Rattle.std.proofs.Common.{◌≡◌, ◌∙◌, ◌≤◌, ◌<◌, inl, inr, ℕ, List, [], ◌∷◌, ◌++◌, refl, ap, sym, subst, true}
-use Rattle.std.proofs.Common.{false, cond}
+use Rattle.std.proofs.Common.{◌≡◌, ◌∙◌, inl, inr, ℕ, List, [], ◌∷◌, ◌++◌, refl, ap, sym, subst, true}
+use Rattle.std.proofs.Common.{cond}
 use Rattle.std.proofs.Common.{Option, Some, None, Result, Ok, Err, length, arith}
 use Rattle.std.specs.Prelude.{◌==◌, nat_lt, codes, bytes_eq}
-use Rattle.std.proofs.lemmas.Bool.{eqb-true, lt-ltb}
+use Rattle.std.proofs.lemmas.Bool.{eqb-true, lt-ltb, le-ltb, ltb-false, ltb-true}
 use Rattle.std.proofs.lemmas.Bool.Decides.{nat_tests}
 use Rattle.std.proofs.lemmas.Slice.Eq.{bytes_eq-Decides}
 use Rattle.text_lines.specs.Text.{number_of}
 use Rattle.fractions.specs.Fraction.{Fraction}
-use Rattle.fractions.proofs.Grammar.{chosen}
+use Rattle.numerals.proofs.Grammar.{chosen}
 use Rattle.game_model.specs.Game.{Distribution, choices_of}
 use Rattle.rewards_reader.specs.declared.fault.RewardsCause.{RewardsCause}
 use Rattle.rewards_reader.specs.declared.fault.RewardsCause.TheVariants.{NoHeader, StateCount, OverLimit}
@@ -20,15 +20,6 @@ use Rattle.rewards_reader.specs.Limits.{most_lines}
 use Rattle.rewards_reader.specs.Lines.{header_said, lines_stated, line_said, state_line, choice_line, line_with}
 use Rattle.rewards_reader.specs.Rewards.{IsOfGame}
 use Rattle.rewards_reader.proofs.AmountLaws.{amount-found, amount-again}
-
-lt-from : (a b : ℕ) → nat_lt a b ≡ true → a < b
-lt-from a b e = grind (arith, nat_tests)
-
-ge-from : (a b : ℕ) → nat_lt a b ≡ false → b ≤ a
-ge-from a b e = grind (arith, nat_tests)
-
-ge-test : (a b : ℕ) → b ≤ a → nat_lt a b ≡ false
-ge-test a b h = grind (arith, nat_tests)
 
 eq-test : (a : ℕ) → (a == a) ≡ true
 eq-test a = grind (arith, nat_tests)
@@ -60,7 +51,7 @@ stated-found game states lines (Some n) (Some m) count first second is =
               form = refl;
               states_spelled = first ∙ ap (λ k. Some k) (eqb-true n (length game) t.0);
               lines_spelled = second;
-              few = ge-from most_lines m u.0;
+              few = ltb-false most_lines m u.0;
             })
       ]
     ]
@@ -90,7 +81,7 @@ header-again game fields count h =
     ∙ ap (λ m. lines_stated game (Some (length game)) m) h.lines_spelled
     ∙ ap (λ b. cond b (cond (nat_lt most_lines count) (Err OverLimit) (Ok count)) (Err StateCount))
     (eq-test (length game))
-    ∙ ap (λ b. cond b (Err OverLimit) (Ok count)) (ge-test most_lines count h.few)
+    ∙ ap (λ b. cond b (Err OverLimit) (Ok count)) (le-ltb most_lines count h.few)
 
 -- 2. A line.
 
@@ -119,7 +110,7 @@ state-found game state reward (Some s) line first is =
     elim (chosen (nat_lt s (length game)) (line_with s None (amount_said reward)) (Err StateOutOfRange) (Ok line) is) [
       | inr t ↦ cc t.1
       | inl t ↦ with-found game state [] reward s None (amount_said reward) line first refl
-          (lt-from s (length game) t.0) refl t.1
+          (ltb-true s (length game) t.0) refl t.1
     ]
 
 choice-found : (game : List (List Distribution)) (state choice reward : List ℕ) (s k : Option ℕ) (line : RewardLine)
@@ -136,7 +127,7 @@ choice-found game state choice reward (Some s) (Some k) line first second is =
             | inr u ↦ cc u.1
             | inl u ↦ with-found game state (choice ∷ []) reward s (Some k) (amount_said reward) line first
                 (choice, (refl, second))
-                (lt-from s (length game) t.0, lt-from k (length (choices_of game s)) u.0) refl u.1
+                (ltb-true s (length game) t.0, ltb-true k (length (choices_of game s)) u.0) refl u.1
           ]
     ]
 
@@ -149,9 +140,6 @@ line-found game (state ∷ choice ∷ reward ∷ []) line is =
     choice-found game state choice reward (number_of state) (number_of choice) line refl refl is
 line-found game (state ∷ choice ∷ reward ∷ more ∷ fields) line is = cc
 
-lt-test : (a b : ℕ) → a < b → nat_lt a b ≡ true
-lt-test a b h = lt-ltb a b h
-
 said-again : (game : List (List Distribution)) (state : List ℕ) (choice : List (List ℕ)) (reward : List ℕ)
     (s : ℕ) (c : Option ℕ) (f : Fraction) → number_of state ≡ Some s → SpellsChoice choice c → IsOfGame game s c
     → amount_said reward ≡ Ok f
@@ -159,16 +147,16 @@ said-again : (game : List (List Distribution)) (state : List ℕ) (choice : List
 said-again game state choice reward s None f first second inside amount =
     ap (λ cs. line_said game (state ∷ (cs ++ reward ∷ []))) second
     ∙ ap (λ n. state_line game n reward) first
-    ∙ ap (λ b. cond b (line_with s None (amount_said reward)) (Err StateOutOfRange)) (lt-test s (length game) inside)
+    ∙ ap (λ b. cond b (line_with s None (amount_said reward)) (Err StateOutOfRange)) (lt-ltb s (length game) inside)
     ∙ ap (line_with s None) amount
 said-again game state choice reward s (Some k) f first second inside amount =
     ap (λ cs. line_said game (state ∷ (cs ++ reward ∷ []))) second.1.0
     ∙ ap (λ n. choice_line game n (number_of second.0) reward) first
     ∙ ap (λ n. choice_line game (Some s) n reward) second.1.1
     ∙ ap (λ b. cond b (cond (nat_lt k (length (choices_of game s))) (line_with s (Some k) (amount_said reward))
-    (Err ChoiceOutOfRange)) (Err StateOutOfRange)) (lt-test s (length game) inside.0)
+    (Err ChoiceOutOfRange)) (Err StateOutOfRange)) (lt-ltb s (length game) inside.0)
     ∙ ap (λ b. cond b (line_with s (Some k) (amount_said reward)) (Err ChoiceOutOfRange))
-    (lt-test k (length (choices_of game s)) inside.1)
+    (lt-ltb k (length (choices_of game s)) inside.1)
     ∙ ap (line_with s (Some k)) amount
 
 pub line-again : (game : List (List Distribution)) (fields : List (List ℕ)) (line : RewardLine)

@@ -8,7 +8,7 @@ use Rattle.std.proofs.lemmas.Bool.{cases_Bool, eqb-true, and_parts}
 use Rattle.std.proofs.lemmas.Bool.Decides.{nat_tests}
 use Rattle.std.proofs.lemmas.List.Sums.{sum_by_more}
 use Rattle.fractions.specs.Fraction.{Fraction}
-use Rattle.fractions.proofs.Grammar.{chosen}
+use Rattle.numerals.proofs.Grammar.{chosen}
 use Rattle.game_model.specs.Game.{Distribution, choices_of, choices_below}
 use Rattle.rewards_reader.specs.declared.fault.RewardsCause.{RewardsCause}
 use Rattle.rewards_reader.specs.declared.fault.RewardsCause.TheVariants.{DoubleLine, LineCount}

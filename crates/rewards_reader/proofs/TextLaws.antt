@@ -1,23 +1,24 @@
 -- The lines that are said of a text are those that it denotes, and so are the rewards.
 use Rattle.std.proofs.Common.{◌≡◌, ◌∙◌, ◌≤◌, ◌<◌, ◌+◌, inl, inr, ℕ, List, [], ◌∷◌, ◌++◌, refl, ap, sym, subst}
-use Rattle.std.proofs.Common.{true}
-use Rattle.std.proofs.Common.{false, cond, Option, Some, None, Result, Ok, Err, length, arith, append_assoc}
-use Rattle.std.proofs.Common.{length-append}
-use Rattle.std.specs.Prelude.{◌==◌, ◌&&◌, nat_lt, is_some, unwrap_or}
-use Rattle.std.proofs.lemmas.Bool.{cases_Bool, eqb-true, and_parts, lt-ltb}
+use Rattle.std.proofs.Common.{true, false, cond, Option, Some, None, Result, Ok, Err, length, arith, append_assoc}
+use Rattle.std.proofs.Common.{length-append, get_or}
+use Rattle.std.specs.Prelude.{◌==◌, ◌&&◌, nat_lt, is_some, unwrap_or, All}
+use Rattle.std.proofs.lemmas.Bool.{cases_Bool, eqb-true, and_parts, lt-ltb, le-ltb, ltb-false, ltb-true, true≢false}
 use Rattle.std.proofs.lemmas.Bool.Decides.{nat_tests}
-use Rattle.std.proofs.lemmas.List.{append-nil}
+use Rattle.std.proofs.lemmas.List.{append-nil, get_or_append_left}
+use Rattle.std.proofs.lemmas.List.Elements.{All-nil, All-cons, All-head, All-tail}
+use Rattle.std.proofs.lemmas.List.Quantifiers.{all_pairs_push}
+use Rattle.std.proofs.Math.Seq.{get_or-append_seam}
 use Rattle.text_lines.specs.Text.{lines_of, fields_of, significant}
 use Rattle.fractions.specs.Fraction.{Fraction}
-use Rattle.fractions.proofs.Grammar.{chosen}
+use Rattle.numerals.proofs.Grammar.{chosen}
 use Rattle.game_model.specs.Game.{Distribution}
 use Rattle.rewards_reader.specs.declared.fault.RewardsCause.{RewardsCause}
 use Rattle.rewards_reader.specs.declared.fault.RewardsCause.TheVariants.{DoubleLine, LineCount}
 use Rattle.rewards_reader.specs.declared.fault.RewardsFault.{RewardsFault}
 use Rattle.rewards_reader.specs.declared.line.RewardLine.{RewardLine}
 use Rattle.rewards_reader.specs.Amounts.{no_reward}
-use Rattle.rewards_reader.specs.Denotes.{IsHeader, AreLines, AreNotAbout, AreSingle, DenotesLines, ArePaid}
-use Rattle.rewards_reader.specs.Denotes.{DenotesRewards}
+use Rattle.rewards_reader.specs.Denotes.{IsHeader, AreLines, IsNotAbout, AreSingle, DenotesLines, DenotesRewards}
 use Rattle.rewards_reader.specs.Lines.{is_about, same_choice, reward_at, single_line, next_line, line_said, header_said}
 use Rattle.rewards_reader.specs.Rewards.{reward_of, reward_in, HasRewards, GivesRewards}
 use Rattle.rewards_reader.specs.Texts.{fault_at, then_at, lines_from, said_by_lines, lines_said}
@@ -47,16 +48,17 @@ not-about-test line s c apart =
           absurd (apart (eqb-true line.state s parts.0) (same_choice-true line.choice c parts.1))
     ]
 
-reward_at-none : (lines : List RewardLine) (s : ℕ) (c : Option ℕ) → AreNotAbout lines s c
+reward_at-none : (lines : List RewardLine) (s : ℕ) (c : Option ℕ) → All (IsNotAbout s c) lines
     → reward_at lines s c ≡ None
 reward_at-none [] s c apart = refl
 reward_at-none (line ∷ lines) s c apart =
-    ap (λ b. cond b (Some line.reward) (reward_at lines s c)) (not-about-test line s c apart.0)
-    ∙ reward_at-none lines s c apart.1
+    ap (λ b. cond b (Some line.reward) (reward_at lines s c))
+    (not-about-test line s c (All-head (IsNotAbout s c) line lines apart))
+    ∙ reward_at-none lines s c (All-tail (IsNotAbout s c) line lines apart)
 
 not-about-from : (lines : List RewardLine) (s : ℕ) (c : Option ℕ) → is_some (reward_at lines s c) ≡ false
-    → AreNotAbout lines s c
-not-about-from [] s c none = tt
+    → All (IsNotAbout s c) lines
+not-about-from [] s c none = All-nil (IsNotAbout s c)
 not-about-from (line ∷ lines) s c none =
     elim (cases_Bool (is_about s c line)) [
       | inl t ↦
@@ -65,38 +67,20 @@ not-about-from (line ∷ lines) s c none =
       | inr f ↦
           let rest : is_some (reward_at lines s c) ≡ false =
           sym (ap (λ b. is_some (cond b (Some line.reward) (reward_at lines s c))) f) ∙ none in
-          ((λ states choices. no (sym (about-test line s c states choices) ∙ f)), not-about-from lines s c rest)
+          All-cons (IsNotAbout s c) line lines
+          (λ states choices. true≢false (sym (about-test line s c states choices) ∙ f)) (not-about-from lines s c rest)
     ]
-  where
-    no : true ≡ false → ⊥
-    no e = cc
-
-not-about-more : (before : List RewardLine) (line : RewardLine) (s : ℕ) (c : Option ℕ) → AreNotAbout before s c
-    → (line.state ≡ s → line.choice ≡ c → ⊥) → AreNotAbout (before ++ line ∷ []) s c
-not-about-more [] line s c apart last = (last, tt)
-not-about-more (first ∷ before) line s c apart last = (apart.0, not-about-more before line s c apart.1 last)
-
-single-more : (before : List RewardLine) (line : RewardLine) → AreSingle before
-    → AreNotAbout before line.state line.choice → AreSingle (before ++ line ∷ [])
-single-more [] line single apart = (tt, tt)
-single-more (first ∷ before) line single apart = (
-  not-about-more before line first.state first.choice single.0 (λ states choices. apart.0 (sym states) (sym choices)),
-  single-more before line single.1 apart.1,
-)
-
-not-about-middle : (before : List RewardLine) (line : RewardLine) (more : List RewardLine) (s : ℕ) (c : Option ℕ)
-    → AreNotAbout (before ++ line ∷ more) s c → line.state ≡ s → line.choice ≡ c → ⊥
-not-about-middle [] line more s c apart states choices = apart.0 states choices
-not-about-middle (first ∷ before) line more s c apart states choices =
-    not-about-middle before line more s c apart.1 states choices
 
 single-before : (before : List RewardLine) (line : RewardLine) (more : List RewardLine)
-    → AreSingle (before ++ line ∷ more) → AreNotAbout before line.state line.choice
-single-before [] line more single = tt
-single-before (first ∷ before) line more single = (
-  (λ states choices. not-about-middle before line more first.state first.choice single.0 (sym states) (sym choices)),
-  single-before before line more single.1,
-)
+    → AreSingle (before ++ line ∷ more) → All (IsNotAbout line.state line.choice) before
+single-before before line more single = λ k d l.
+    let P : RewardLine → Type 0 =
+    λ first. IsNotAbout (get_or (before ++ line ∷ more) (length before) d).state
+    (get_or (before ++ line ∷ more) (length before) d).choice first in
+    let Q : RewardLine → Type 0 = λ last. IsNotAbout last.state last.choice (get_or before k d) in
+    subst Q (get_or-append_seam before line more d)
+    (subst P (get_or_append_left before (line ∷ more) d k l)
+    (single k (length before) d l (omega (arith, length-append before (line ∷ more)))))
 
 -- 2. What is said of the lines.
 
@@ -115,15 +99,6 @@ record IsNext (game : List (List Distribution)) (stated : ℕ) (before : List Re
   pub room : length before < stated
   pub said : line_said game fields ≡ Ok line
   pub free : is_some (reward_at before line.state line.choice) ≡ false
-
-lt-from : (a b : ℕ) → nat_lt a b ≡ true → a < b
-lt-from a b e = grind (arith, nat_tests)
-
-ge-from : (a b : ℕ) → nat_lt a b ≡ false → b ≤ a
-ge-from a b e = grind (arith, nat_tests)
-
-ge-test : (a b : ℕ) → b ≤ a → nat_lt a b ≡ false
-ge-test a b h = grind (arith, nat_tests)
 
 record IsFree (before : List RewardLine) (said : Result RewardLine RewardsCause) (line : RewardLine) : Type 0 where
   pub said_is : said ≡ Ok line
@@ -151,7 +126,7 @@ next-found game stated before fields line is =
       | inr t ↦ cc t.1
       | inl t ↦
           let found = single-found before (line_said game fields) line t.1 in
-          record { room = lt-from (length before) stated t.0; said = found.said_is; free = found.free }
+          record { room = ltb-true (length before) stated t.0; said = found.said_is; free = found.free }
     ]
 
 next-again : (game : List (List Distribution)) (stated : ℕ) (before : List RewardLine) (fields : List (List ℕ))
@@ -185,7 +160,7 @@ from-found game stated before number [] lines single room is =
             whole = sym (append-nil before);
             are_lines = tt;
             single = single;
-            count = omega (arith, room, ge-from (length before) stated t.0);
+            count = omega (arith, room, ltb-false (length before) stated t.0);
           })
     ]
   where
@@ -196,7 +171,8 @@ from-found game stated before number (bytes ∷ others) lines single room is =
     (λ next. lines_from game stated (before ++ next ∷ []) (number + 1) others) lines is in
     let next = next-found game stated before (fields_of bytes) step.first step.is in
     let rest = from-found game stated (before ++ step.first ∷ []) (number + 1) others lines
-    (single-more before step.first single (not-about-from before step.first.state step.first.choice next.free))
+    (all_pairs_push (λ line other. IsNotAbout other.state other.choice line) before step.first single
+    (not-about-from before step.first.state step.first.choice next.free))
     (omega (arith, length-append before (step.first ∷ []), next.room)) step.behind in
     record {
       more = step.first ∷ rest.more;
@@ -211,7 +187,7 @@ from-again : (game : List (List Distribution)) (stated : ℕ) (before : List Rew
     → length before + length more ≡ stated → lines_from game stated before number others ≡ Ok (before ++ more)
 from-again game stated before number [] [] are single count =
     ap (λ b. cond b (Err (fault_at 0 (LineCount (length before) stated))) (Ok before))
-    (ge-test (length before) stated (omega (arith, count)))
+    (le-ltb (length before) stated (omega (arith, count)))
     ∙ ap (λ (ls : List RewardLine). Ok ls) (sym (append-nil before))
 from-again game stated before number [] (line ∷ more) are single count = absurd are
 from-again game stated before number (bytes ∷ others) [] are single count = absurd are
@@ -238,7 +214,8 @@ by-lines game text [] lines parts is = cc
 by-lines game text (header ∷ others) lines parts is =
     let step = then-found 1 (header_said game (fields_of header))
     (λ stated. lines_from game stated [] 2 others) lines is in
-    let rest = from-found game step.first [] 2 others lines tt (omega arith) step.behind in
+    let rest = from-found game step.first [] 2 others lines
+    (λ i j d less inside. absurd (omega (arith, inside))) (omega arith) step.behind in
     let P : ℕ → Type 0 = λ n. IsHeader game (fields_of header) n in
     let Q : List RewardLine → Type 0 = λ ls. AreLines game others ls in
     record {
@@ -276,49 +253,53 @@ reward_of-later : (first : RewardLine) (lines : List RewardLine) (s : ℕ) (c : 
 reward_of-later first lines s c apart =
     ap (λ b. unwrap_or (cond b (Some first.reward) (reward_at lines s c)) no_reward) (not-about-test first s c apart)
 
+-- the table has the reward of the line
+abbrev IsPaid : List (List Distribution) → List (Option Fraction) → RewardLine → Type 0
+IsPaid game table line = reward_in game table line.state line.choice ≡ line.reward
+
 -- a table that has the rewards of single lines pays each of them
 paid-from : (game : List (List Distribution)) (table : List (Option Fraction)) (before lines : List RewardLine)
     (others : List (List ℕ)) → AreLines game others lines → AreSingle (before ++ lines)
-    → HasRewards game (before ++ lines) table → ArePaid game table lines
-paid-from game table before [] others are single has = tt
+    → HasRewards game (before ++ lines) table → All (IsPaid game table) lines
+paid-from game table before [] others are single has = All-nil (IsPaid game table)
 paid-from game table before (line ∷ lines) [] are single has = absurd are
 paid-from game table before (line ∷ lines) (bytes ∷ others) are single has =
     let P : List RewardLine → Type 0 = λ ls. AreSingle ls × HasRewards game ls table in
     let whole : (before ++ line ∷ []) ++ lines ≡ before ++ line ∷ lines = append_assoc before (line ∷ []) lines in
     let both : AreSingle ((before ++ line ∷ []) ++ lines) × HasRewards game ((before ++ line ∷ []) ++ lines) table =
-    subst P (sym whole) (single, has) in (
-      has.each line.state line.choice are.0.of_game
-          ∙ at before (single-before before line lines single),
-      paid-from game table (before ++ line ∷ []) lines others are.1 both.0 both.1,
-    )
+    subst P (sym whole) (single, has) in
+    All-cons (IsPaid game table) line lines
+    (has.each line.state line.choice are.0.of_game ∙ at before (single-before before line lines single))
+    (paid-from game table (before ++ line ∷ []) lines others are.1 both.0 both.1)
   where
-    at : (front : List RewardLine) → AreNotAbout front line.state line.choice
+    at : (front : List RewardLine) → All (IsNotAbout line.state line.choice) front
         → reward_of (front ++ line ∷ lines) line.state line.choice ≡ line.reward
     at [] apart = reward_of-first line lines
     at (first ∷ front) apart =
-        reward_of-later first (front ++ line ∷ lines) line.state line.choice apart.0 ∙ at front apart.1
+        reward_of-later first (front ++ line ∷ lines) line.state line.choice
+        (All-head (IsNotAbout line.state line.choice) first front apart)
+        ∙ at front (All-tail (IsNotAbout line.state line.choice) first front apart)
 
 -- and a table that pays them, and nothing else, has their rewards
 rewards-from : (game : List (List Distribution)) (table : List (Option Fraction)) (s : ℕ) (c : Option ℕ)
-    (lines : List RewardLine) → ArePaid game table lines
-    → (AreNotAbout lines s c → reward_in game table s c ≡ no_reward) → reward_in game table s c ≡ reward_of lines s c
-rewards-from game table s c [] paid others = others tt
+    (lines : List RewardLine) → All (IsPaid game table) lines
+    → (All (IsNotAbout s c) lines → reward_in game table s c ≡ no_reward)
+    → reward_in game table s c ≡ reward_of lines s c
+rewards-from game table s c [] paid others = others (All-nil (IsNotAbout s c))
 rewards-from game table s c (line ∷ lines) paid others =
     elim (cases_Bool (is_about s c line)) [
       | inl t ↦
           let parts = and_parts (line.state == s) (same_choice line.choice c) t in
           ap (λ n. reward_in game table n c) (sym (eqb-true line.state s parts.0))
           ∙ ap (λ d. reward_in game table line.state d) (sym (same_choice-true line.choice c parts.1))
-          ∙ paid.0
+          ∙ All-head (IsPaid game table) line lines paid
           ∙ sym (ap (λ b. unwrap_or (cond b (Some line.reward) (reward_at lines s c)) no_reward) t)
       | inr f ↦
-          rewards-from game table s c lines paid.1
-          (λ rest. others ((λ states choices. no (sym (about-test line s c states choices) ∙ f)), rest))
+          rewards-from game table s c lines (All-tail (IsPaid game table) line lines paid)
+          (λ rest. others (All-cons (IsNotAbout s c) line lines
+          (λ states choices. true≢false (sym (about-test line s c states choices) ∙ f)) rest))
           ∙ sym (ap (λ b. unwrap_or (cond b (Some line.reward) (reward_at lines s c)) no_reward) f)
     ]
-  where
-    no : true ≡ false → ⊥
-    no e = cc
 
 pub rewards-found : (game : List (List Distribution)) (text : List ℕ) (table : List (Option Fraction))
     → GivesRewards game (lines_said game text) table → DenotesRewards game text table

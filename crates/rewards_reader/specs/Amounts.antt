@@ -5,7 +5,8 @@ use Rattle.std.specs.Int.{IsGcd}
 use Rattle.fractions.specs.declared.number.NumberFault.TheVariants.{NotANumber, TooManyDigits, ZeroDenominator, TooFine}
 use Rattle.fractions.specs.Fraction.{Fraction, SameValue, lowest}
 use Rattle.fractions.specs.Limits.{finest}
-use Rattle.fractions.specs.Number.{Spelling, Spells, spelling_of, is_long, value_of}
+use Rattle.numerals.specs.Spelling.{Spelling, Spells, spelling_of, is_long}
+use Rattle.fractions.specs.Number.{value_of}
 use Rattle.rewards_reader.specs.declared.fault.RewardsCause.{RewardsCause}
 use Rattle.rewards_reader.specs.declared.fault.RewardsCause.TheVariants.{Number, TooLarge}
 use Rattle.rewards_reader.specs.Limits.{most_reward}

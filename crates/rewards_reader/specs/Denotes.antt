@@ -1,5 +1,6 @@
 -- A text denotes lines that give rewards, and a table has these rewards. These definitions are relations.
-use Rattle.std.specs.Prelude.{◌≡◌, ◌≤◌, ℕ, List, [], ◌∷◌, ◌++◌, length, codes, Option, Some, None}
+use Rattle.std.specs.Prelude.{◌≡◌, ◌≤◌, ℕ, List, [], ◌∷◌, ◌++◌, length, codes, All, AllPairs, Option, Some, None}
+use Rattle.std.specs.List.{AllZip}
 use Rattle.text_lines.specs.Text.{lines_of, fields_of, number_of, significant}
 use Rattle.fractions.specs.Fraction.{Fraction}
 use Rattle.game_model.specs.Game.{Distribution}
@@ -35,21 +36,15 @@ pub record IsLine (game : List (List Distribution)) (fields : List (List ℕ)) (
 
 -- Each line of the text says the line in its place.
 abbrev pub AreLines : List (List Distribution) → List (List ℕ) → List RewardLine → Type 0
-AreLines game [] [] = Unit {0}
-AreLines game [] (line ∷ lines) = ⊥
-AreLines game (bytes ∷ more) [] = ⊥
-AreLines game (bytes ∷ more) (line ∷ lines) = IsLine game (fields_of bytes) line × AreLines game more lines
+AreLines game others lines = AllZip (λ bytes line. IsLine game (fields_of bytes) line) others lines
 
--- No line is about this state, or about this choice of it.
-abbrev pub AreNotAbout : List RewardLine → ℕ → Option ℕ → Type 0
-AreNotAbout [] state choice = Unit {0}
-AreNotAbout (line ∷ lines) state choice = (line.state ≡ state → line.choice ≡ choice → ⊥)
-    × AreNotAbout lines state choice
+-- The line is not about this state, or not about this choice of it.
+abbrev pub IsNotAbout : ℕ → Option ℕ → RewardLine → Type 0
+IsNotAbout state choice line = line.state ≡ state → line.choice ≡ choice → ⊥
 
 -- No two lines are about the same state, or about the same choice.
 abbrev pub AreSingle : List RewardLine → Type 0
-AreSingle [] = Unit {0}
-AreSingle (line ∷ lines) = AreNotAbout lines line.state line.choice × AreSingle lines
+AreSingle lines = AllPairs (λ line other. IsNotAbout other.state other.choice line) lines
 
 -- A text denotes these lines of a game: its header states how many there are, and no two are about the same.
 pub record DenotesLines (game : List (List Distribution)) (text : List ℕ) (lines : List RewardLine) : Type 0 where
@@ -60,17 +55,11 @@ pub record DenotesLines (game : List (List Distribution)) (text : List ℕ) (lin
   pub are_lines : AreLines game others lines
   pub single : AreSingle lines
 
--- The table has the reward of each of these lines.
-abbrev pub ArePaid : List (List Distribution) → List (Option Fraction) → List RewardLine → Type 0
-ArePaid game table [] = Unit {0}
-ArePaid game table (line ∷ lines) = (reward_in game table line.state line.choice ≡ line.reward)
-    × ArePaid game table lines
-
 -- A text denotes the rewards in a table: those of its lines, and 0 for each state and choice that no line is about.
 pub record DenotesRewards (game : List (List Distribution)) (text : List ℕ) (table : List (Option Fraction))
     : Type 0 where
   pub lines : List RewardLine
   pub denoted : DenotesLines game text lines
-  pub paid : ArePaid game table lines
-  pub others : (state : ℕ) (choice : Option ℕ) → IsOfGame game state choice → AreNotAbout lines state choice
+  pub paid : All (λ line. reward_in game table line.state line.choice ≡ line.reward) lines
+  pub others : (state : ℕ) (choice : Option ℕ) → IsOfGame game state choice → All (IsNotAbout state choice) lines
       → reward_in game table state choice ≡ no_reward

@@ -1,4 +1,3 @@
 -- The crate's own private functions use these definitions: no clause of a public function unfolds to them.
-pub mod Written
 pub mod Kept
 pub mod Ends

@@ -9,7 +9,7 @@ ghost use Rattle.rewards_reader.specs.inside.Ends.{end_of_file};
 
 use crate::fault::{RewardsEnd, RewardsFault};
 use crate::reader::RewardLines;
-use crate::rewards::Rewards;
+use crate::table::RewardTable;
 use game_model::Game;
 use game_outside::{FileEnd, Shelf, read_lines_from};
 use std::alloc::Global;
@@ -22,7 +22,7 @@ pub fn read_rewards_from<H: Shelf>(
     name: &str,
     limit: u64,
     game: &Game,
-) -> Result<Rewards, FileEnd<RewardsFault>>
+) -> Result<RewardTable, FileEnd<RewardsFault>>
     requires { limit ≤ most_bytes }
 
     // The answer is what is said of the whole text.

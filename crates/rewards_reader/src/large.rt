@@ -1,19 +1,20 @@
 //! This module has numbers above 2 as rewards.
 
-ghost use Rattle.std.specs.Prelude.{◌≡◌, ◌≤◌, ◌<◌, ◌+◌, ◌*◌, ◌^◌, true, Some, Err, length};
+ghost use Rattle.std.specs.Prelude.{◌≡◌, ◌≤◌, ◌<◌, ◌*◌, ◌^◌, true, Some, Err};
 ghost use Rattle.std.specs.Int.{IsGcd};
-ghost use Rattle.text_lines.specs.Text.{all_digits, value_onto};
-ghost use Rattle.fractions.specs.Limits.{finest, most_digits};
-ghost use Rattle.fractions.specs.Number.{fraction_said, spelling_said, Decimal, Quotient};
+ghost use Rattle.text_lines.specs.Text.{all_digits};
+ghost use Rattle.numerals.specs.Limits.{most_digits};
+ghost use Rattle.numerals.specs.Spelling.{Decimal, Quotient};
+ghost use Rattle.numerals.specs.Written.{exponent_in};
+ghost use Rattle.fractions.specs.Limits.{finest};
+ghost use Rattle.fractions.specs.Number.{fraction_said, spelling_said};
 ghost use Rattle.rewards_reader.specs.Amounts.{amount_of, amount_within, spelled_amount};
-ghost use Rattle.rewards_reader.specs.inside.Written.{exponent_in};
 
 use crate::amount::Amount;
-use crate::divisor::greatest_common_divisor;
 use crate::fault::RewardsCause;
 use crate::limits::{MOST_REWARD, MOST_REWARD_TENS};
-use crate::spelling::Power;
-use fractions::NumberFault;
+use fractions::{NumberFault, greatest_common_divisor};
+use numerals::{Power, digits_onto};
 
 /// Returns the reward of a decimal above 2, or its fault.
 pub fn large_decimal(front: &[u8], back: &[u8], power: Power<'_>) -> Result<Amount, RewardsCause>
@@ -41,20 +42,6 @@ pub fn large_quotient(above: &[u8], below: &[u8]) -> Result<Amount, RewardsCause
     ensures { result ≡ spelled_amount (Some (Quotient above.now below.now)) }
 {
     reduced(digits_onto(0, above), digits_onto(0, below))
-}
-
-// Returns the number whose digits are those of a number and then these.
-fn digits_onto(before: u128, digits: &[u8]) -> u128
-    requires digits { all_digits digits.now ≡ true }
-    requires small { (before + 1) * 10 ^ length digits.now ≤ 10 ^ most_digits }
-    ensures value { result ≡ value_onto before digits.now }
-    ensures small { result + 1 ≤ (before + 1) * 10 ^ length digits.now }
-{
-    let mut value = before;
-    for b in digits {
-        value = 10 * value + u128::from(b - b'0');
-    }
-    value
 }
 
 // Returns the reward of digits times a power of ten, over a power of ten, or its fault. It is above 2, so `10^(down -

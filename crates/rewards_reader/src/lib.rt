@@ -15,18 +15,16 @@
 #![tactic(auto)]
 
 mod amount;
-mod divisor;
 mod fault;
 mod file;
 mod header;
+mod kept;
 mod large;
 pub mod laws;
 mod limits;
 mod line;
 mod number;
 mod reader;
-mod rewards;
-mod spelling;
 mod table;
 
 pub use amount::Amount;
@@ -34,4 +32,4 @@ pub use fault::{RewardsCause, RewardsEnd, RewardsFault};
 pub use file::read_rewards_from;
 pub use limits::{MOST_LINES, MOST_REWARD};
 pub use reader::read_rewards;
-pub use rewards::Rewards;
+pub use table::RewardTable;

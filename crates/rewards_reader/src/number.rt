@@ -8,8 +8,8 @@ ghost use Rattle.rewards_reader.specs.Amounts.{amount_said};
 use crate::amount::Amount;
 use crate::fault::RewardsCause;
 use crate::large::{large_decimal, large_quotient};
-use crate::spelling::{Written, read_spelling};
 use fractions::{NumberFault, read_number};
+use numerals::{Written, read_spelling};
 
 /// Reads the reward that a text spells, or gives its first fault. Only a number above 2 is taken apart a second time.
 pub fn read_amount(text: &[u8]) -> Result<Amount, RewardsCause>

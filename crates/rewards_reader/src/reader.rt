@@ -7,7 +7,7 @@ ghost use Rattle.rewards_reader.specs.Texts.{lines_said};
 ghost use Rattle.rewards_reader.specs.inside.Kept.{IsRight};
 
 use crate::fault::{RewardsCause, RewardsEnd};
-use crate::rewards::Rewards;
+use crate::kept::KeptLines;
 use crate::table::RewardTable;
 use game_model::Game;
 use std::alloc::Global;
@@ -18,7 +18,7 @@ use text_lines::{LineReader, read_lines};
 pub struct RewardLines<'g> {
     alloc: Global,
     game: &'g Game,
-    table: Option<RewardTable<'g>>,
+    table: Option<KeptLines<'g>>,
 }
 
 impl<'g> RewardLines<'g> {
@@ -38,7 +38,7 @@ impl<'g> RewardLines<'g> {
 }
 
 impl<'g> LineReader for RewardLines<'g> {
-    type Made = Rewards;
+    type Made = RewardTable;
 
     type Fault = RewardsEnd;
 
@@ -48,7 +48,7 @@ impl<'g> LineReader for RewardLines<'g> {
         match &mut self.table {
             Some(table) => table.take(number, line),
             None => {
-                self.table = Some(RewardTable::begin(self.alloc, self.game, line)?);
+                self.table = Some(KeptLines::begin(self.alloc, self.game, line)?);
                 Ok(())
             }
         }
@@ -61,7 +61,7 @@ impl<'g> LineReader for RewardLines<'g> {
         }
     }
 
-    fn finish(self) -> Result<Rewards, RewardsEnd> {
+    fn finish(self) -> Result<RewardTable, RewardsEnd> {
         let RewardLines {
             alloc: _,
             game: _,
@@ -75,7 +75,7 @@ impl<'g> LineReader for RewardLines<'g> {
 }
 
 /// Reads the rewards of a game from a text, or the first fault of the text.
-pub fn read_rewards(alloc: Global, text: &[u8], game: &Game) -> Result<Rewards, RewardsEnd>
+pub fn read_rewards(alloc: Global, text: &[u8], game: &Game) -> Result<RewardTable, RewardsEnd>
     requires { length text.now ≤ most_bytes }
     ensures { IsAnswer game.now (lines_said game.now text.now) result }
 {

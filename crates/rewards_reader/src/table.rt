@@ -1,168 +1,76 @@
-//! This module keeps the rewards of the lines behind a header.
+//! This module has the rewards of a game.
 
-ghost use Rattle.std.specs.Prelude.{◌≡◌, ◌<◌, ◌≤◌, ◌+◌, length, replicate, slice_index_or, slice_set, is_some, IfOk, None};
-ghost use Rattle.game_model.specs.Game.{choices_below};
-ghost use Rattle.rewards_reader.specs.Limits.{most_lines};
+ghost use Rattle.std.specs.Prelude.{◌≡◌, ◌<◌, ◌≤◌, ◌+◌, ◌^◌, length, Some, None, slice_index_or, unwrap_or};
+ghost use Rattle.game_model.specs.Game.{choices_of};
+ghost use Rattle.rewards_reader.specs.Amounts.{no_reward};
+ghost use Rattle.rewards_reader.specs.Rewards.{place_of, reward_in};
 
 use crate::amount::Amount;
-use crate::fault::{RewardsCause, RewardsEnd};
-use crate::header::read_header;
-use crate::line::{RewardLine, read_line};
-use crate::rewards::{Rewards, place_of};
 use game_model::Game;
-use std::alloc::{AllocError, Global};
+use std::marker::Model;
 
-/// Keeps the rewards of the lines so far, in the order of the states: an entry for the state, and behind it one for
-/// each of its choices.
+/// Holds the rewards of a game: one for each state and one for each choice. Contracts see the entries of a table, in
+/// the order of the states: an entry for the state, and behind it one for each of its choices.
 #[derive(Drop)]
-pub struct RewardTable<'g> {
-    game: &'g Game,
-    stated: u32,
-    count: u32,
+pub struct RewardTable {
     entries: Vec<Option<Amount>>,
-    ghost many: { length entries.items ≡ choices_below game.now (length game.now) + length game.now },
-    ghost few: { stated ≤ most_lines },
-    ghost within: { count ≤ stated },
 }
 
-impl<'g> RewardTable<'g> {
-    ghost use Rattle.std.specs.Prelude.{◌≡◌, ◌<◌, ◌+◌, [], ◌∷◌, ℕ, List, Some, None, Ok, length, slice_index_or, slice_set, is_some, IfOk, IfErr, OnOk};
-    ghost use Rattle.text_lines.specs.Text.{fields_of};
-    ghost use Rattle.rewards_reader.specs.declared.fault.RewardsCause.TheVariants.{LineCount};
-    ghost use Rattle.rewards_reader.specs.declared.line.RewardLine.{RewardLine};
-    ghost use Rattle.rewards_reader.specs.Lines.{header_said, next_line};
-    ghost use Rattle.rewards_reader.specs.Rewards.{IsOfGame, place_of, IsAnswer};
-    ghost use Rattle.rewards_reader.specs.Texts.{lines_from};
-    ghost use Rattle.rewards_reader.specs.inside.Kept.{IsKept, IsEndAt, Begins, TakesLine, RefusesLine};
+impl Model for RewardTable {
+    ghost use Rattle.std.specs.Prelude.{List, Option};
+    ghost use Rattle.fractions.specs.Fraction.{Fraction};
 
-    /// Reads the header, and keeps no reward yet.
-    pub fn begin(alloc: Global, game: &'g Game, line: &[u8]) -> Result<RewardTable<'g>, RewardsEnd>
-        ensures ok { IfOk result (λ table. Begins game.now line.now table) }
-        ensures fault { IfErr result (λ end. IsEndAt 1 (header_said game.now (fields_of line.now)) end) }
+    ghost Value = { List (Option Fraction) };
+
+    ghost view = { λ rewards. rewards.entries.items };
+}
+
+impl RewardTable {
+    /// Makes the rewards of these entries.
+    pub(crate) fn new(entries: Vec<Option<Amount>>) -> RewardTable
+        ensures { result ≡ entries.items }
     {
-        let stated = match read_header(game, line) {
-            Err(cause) => return Err(RewardsEnd::at(1, cause)),
-            Ok(stated) => stated,
-        };
-        match no_rewards(alloc, game) {
-            Err(_) => Err(RewardsEnd::OutOfMemory),
-            Ok(entries) => Ok(RewardTable {
-                game,
-                stated,
-                count: 0,
-                entries,
-            }),
-        }
+        RewardTable { entries }
     }
 
-    /// Takes the line of this number, or gives its fault.
-    pub fn take(&mut self, number: u32, line: &[u8]) -> Result<(), RewardsEnd>
-        ensures ok { OnOk result (TakesLine self.old self.new line.now) }
-        ensures fault { IfErr result (RefusesLine self.old number (fields_of line.now)) }
+    /// Returns the reward of a state, which is 0 if no line gives one. The game is the one for which the rewards were
+    /// read.
+    pub fn of_state(&self, game: &Game, state: u32) -> Amount
+        requires { state < length game.now }
+        ensures { result ≡ reward_in game.now self.now state None }
     {
-        match self.next_line(line) {
-            Err(cause) => Err(RewardsEnd::at(number, cause)),
-            Ok(next) => {
-                self.put(&next);
-                Ok(())
-            }
-        }
+        self.at(place_of(game, state, None))
     }
 
-    // Reads the next line, or gives its fault.
-    fn next_line(&self, line: &[u8]) -> Result<RewardLine, RewardsCause>
-        ensures said { (before : List RewardLine) → IsKept self.now before
-            → result ≡ next_line self.now.game.now self.now.stated before (fields_of line.now) }
-        ensures inside { IfOk result (λ next. IsOfGame self.now.game.now next.state next.choice) }
-        ensures room { OnOk result (self.now.count < self.now.stated) }
+    /// Returns the reward of a choice of a state, which is 0 if no line gives one. The game is the one for which the
+    /// rewards were read.
+    pub fn of_choice(&self, game: &Game, state: u32, choice: u32) -> Amount
+        requires state { state < length game.now }
+        requires choice { choice < length (choices_of game.now state) }
+        ensures { result ≡ reward_in game.now self.now state (Some choice) }
     {
-        if self.count >= self.stated {
-            return Err(self.one_too_many());
-        }
-        match read_line(self.game, line) {
-            Err(cause) => Err(cause),
-            Ok(next) => {
-                if self.has(&next) {
-                    return Err(RewardsCause::DoubleLine);
-                }
-                Ok(next)
-            }
-        }
+        self.at(place_of(game, state, Some(choice)))
     }
 
-    // Returns the cause that there is a line more than stated.
-    fn one_too_many(&self) -> RewardsCause
-        ensures { result ≡ LineCount (self.now.stated + 1) self.now.stated }
+    // Returns the reward at a place, which is 0 if the entry has none.
+    fn at(&self, place: usize) -> Amount
+        ensures { result ≡ unwrap_or (slice_index_or self.now place None) no_reward }
     {
-        RewardsCause::LineCount {
-            read: self.stated + 1,
-            stated: self.stated,
+        if place >= self.entries.len() {
+            return Amount::zero();
         }
-    }
-
-    // Says whether a line that is kept is about the same state or choice.
-    fn has(&self, line: &RewardLine) -> bool
-        requires { IsOfGame self.now.game.now line.now.state line.now.choice }
-        ensures { result ≡ is_some (slice_index_or self.now.entries.items
-            (place_of self.now.game.now line.now.state line.now.choice) None) }
-    {
-        self.entries[place_of(self.game, line.state, line.choice)].is_some()
-    }
-
-    // Keeps the reward of a line.
-    fn put(&mut self, line: &RewardLine)
-        requires inside { IsOfGame self.old.game.now line.now.state line.now.choice }
-        requires room { self.old.count < self.old.stated }
-        ensures entries { self.new.entries.items ≡ slice_set self.old.entries.items
-            (place_of self.old.game.now line.now.state line.now.choice) (Some line.now.reward) }
-        ensures count { self.new.count ≡ self.old.count + 1 }
-        ensures game { self.new.game.now ≡ self.old.game.now }
-        ensures stated { self.new.stated ≡ self.old.stated }
-    {
-        let place = place_of(self.game, line.state, line.choice);
-        self.entries[place] = Some(line.reward);
-        self.count += 1;
-    }
-
-    /// Returns the fault of a blank line of this number.
-    pub fn blank(&self, number: u32) -> RewardsEnd
-        ensures { RefusesLine self.now number [] result }
-    {
-        if self.count >= self.stated {
-            return RewardsEnd::at(number, self.one_too_many());
-        }
-        RewardsEnd::at(number, RewardsCause::FieldCount)
-    }
-
-    /// Returns the rewards when the text has no more lines, unless lines are missing.
-    pub fn finish(self) -> Result<Rewards, RewardsEnd>
-        ensures { (before : List RewardLine) (number : ℕ) → IsKept self.entry before → IsAnswer self.entry.game.now
-            (lines_from self.entry.game.now self.entry.stated before number []) result }
-    {
-        let RewardTable {
-            game: _,
-            stated,
-            count,
-            entries,
-        } = self;
-        if count < stated {
-            let cause = RewardsCause::LineCount {
-                read: count,
-                stated,
-            };
-            return Err(RewardsEnd::at(0, cause));
-        }
-        Ok(Rewards::new(entries))
+        self.entries[place].unwrap_or(Amount::zero())
     }
 }
 
-// Returns the entries of a game for which no line gives a reward.
-fn no_rewards(alloc: Global, game: &Game) -> Result<Vec<Option<Amount>>, AllocError>
-    ensures { IfOk result (λ entries. entries.items
-        ≡ replicate (choices_below game.now (length game.now) + length game.now) None) }
+/// Returns the place of a state, or of a choice of it, in a table of rewards.
+pub fn place_of(game: &Game, state: u32, choice: Option<u32>) -> usize
+    requires { state < length game.now }
+    ensures { result ≡ place_of game.now state choice }
 {
-    let states = game.states();
-    let places = game.choices_below(states) as usize + states as usize;
-    let entries = vec![in alloc; None; places]?;
-    Ok(entries)
+    let place = game.choices_below(state) as usize + state as usize;
+    match choice {
+        None => place,
+        Some(choice) => place + 1 + choice as usize,
+    }
 }

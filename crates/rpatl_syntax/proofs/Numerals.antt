@@ -7,10 +7,12 @@ use Rattle.std.proofs.lemmas.Fmt.{decimal_by_steps_wide, length-decimal-le_wide}
 use Rattle.std.proofs.lemmas.List.{append-nil}
 use Rattle.std.proofs.lemmas.Bool.Decides.{nat_tests}
 use Rattle.text_lines.specs.Text.{all_digits, value_onto, is_digit, number_of}
-use Rattle.fractions.specs.Limits.{finest, most_digits}
+use Rattle.numerals.specs.Limits.{most_digits}
+use Rattle.fractions.specs.Limits.{finest}
 use Rattle.fractions.specs.Fraction.{Fraction}
-use Rattle.fractions.specs.Number.{Decimal, Quotient, no_exponent, AreDigits, DenotesNumber}
-use Rattle.fractions.proofs.Spelled.{value_append}
+use Rattle.numerals.specs.Spelling.{Decimal, Quotient, no_exponent, AreDigits}
+use Rattle.fractions.specs.Number.{DenotesNumber}
+use Rattle.numerals.proofs.Spelled.{value_append}
 use Rattle.formula_reader.specs.Limits.{most_steps}
 use Rattle.formula_reader.specs.Rules.{IsSteps}
 use Rattle.rpatl_syntax.specs.Spelling.{fraction_spelling}

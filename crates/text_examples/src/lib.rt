@@ -1,6 +1,6 @@
 //! These are worked examples of each call that reads or writes texts: shelves and sinks, numbers, transition, label and
-//! owner files, values, certificates, words, formulas, questions and verdicts. There are also examples of gates that
-//! give up.
+//! owner files, values, rewards, certificates, words, formulas, questions and verdicts. There are also examples of
+//! gates that give up.
 //!
 //! The examples are in a crate above these crates, because a test in a crate proves that crate once more.
 #![tactic(auto)]
@@ -21,6 +21,8 @@ mod outside;
 mod plans;
 #[cfg(test)]
 mod questions;
+#[cfg(test)]
+mod rewards;
 #[cfg(test)]
 mod transitions;
 #[cfg(test)]

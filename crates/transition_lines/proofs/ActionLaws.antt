@@ -6,7 +6,8 @@ use Rattle.std.specs.List.{filter}
 use Rattle.std.specs.Option.{option_map_or, option_or}
 use Rattle.std.specs.Str.{bytes_eq}
 use Rattle.std.proofs.lemmas.Slice.Eq.{bytes_eq-Decides}
-use Rattle.transition_lines.specs.Lines.{Row, is_of, first_action, clashes, HaveActions}
+use Rattle.std.proofs.lemmas.List.Elements.{All-nil, All-cons, All-head, All-tail, All-push}
+use Rattle.transition_lines.specs.Lines.{Row, is_of, first_action, clashes, HasAction, HaveActions}
 use Rattle.transition_lines.proofs.RowLaws.{NoClash}
 
 abbrev first_of : List Row → Option (List ℕ)
@@ -64,12 +65,11 @@ here_has before rows row fine =
         not_false false e = cc
 
 actions_behind : (before rows : List Row) → NoClash before rows → HaveActions rows (action_in (before ++ rows))
-actions_behind before [] fine = tt
+actions_behind before [] fine = All-nil (HasAction (action_in (before ++ [])))
 actions_behind before (row ∷ rows) fine =
-    let P : List Row → Type 0 = λ all. HaveActions rows (action_in all) in (
-      here_has before rows row fine.0,
-      subst P (append_assoc before (row ∷ []) rows) (actions_behind (before ++ row ∷ []) rows fine.1),
-    )
+    let P : List Row → Type 0 = λ all. HaveActions rows (action_in all) in
+    All-cons (HasAction (action_in (before ++ row ∷ rows))) row rows (here_has before rows row fine.0)
+    (subst P (append_assoc before (row ∷ []) rows) (actions_behind (before ++ row ∷ []) rows fine.1))
 
 pub actions_found : (rows : List Row) → NoClash [] rows → HaveActions rows (action_in rows)
 actions_found rows fine = actions_behind [] rows fine
@@ -79,14 +79,14 @@ first_has : (rows : List Row) (action_of : ℕ → ℕ → List ℕ) (s k : ℕ)
     → first_action rows s k ≡ Some a → a ≡ action_of s k
 first_has [] action_of s k a have e = cc
 first_has (row ∷ rows) action_of s k a have e = elim (cases_Bool (is_of s k row.transition)) [
-  | inr other ↦ first_has rows action_of s k a have.1
+  | inr other ↦ first_has rows action_of s k a (All-tail (HasAction action_of) row rows have)
       (sym (ap (λ v. first_of (cond v (row ∷ of_choice s k rows) (of_choice s k rows))) other) ∙ e)
   | inl this ↦
       let is : Some row.action ≡ Some a =
       sym (ap (λ v. first_of (cond v (row ∷ of_choice s k rows) (of_choice s k rows))) this) ∙ e in
       let same : row.action ≡ a = cc in
       let both = both_true (row.transition.source == s) (row.transition.choice == k) this in
-      sym same ∙ have.0
+      sym same ∙ All-head (HasAction action_of) row rows have
       ∙ ap₂ (λ i j. action_of i j) (is_equal row.transition.source s both.0) (is_equal row.transition.choice k both.1)
 ]
   where
@@ -109,18 +109,15 @@ fine_here before row action_of have is = by_first (first_action before row.trans
         ∙ ap (λ b. not b) ((bytes_eq-Decides a row.action).1
         (first_has before action_of row.transition.source row.transition.choice a have e ∙ sym is))
 
-have_push : (before : List Row) (row : Row) (action_of : ℕ → ℕ → List ℕ) → HaveActions before action_of
-    → row.action ≡ action_of row.transition.source row.transition.choice → HaveActions (before ++ row ∷ []) action_of
-have_push [] row action_of have is = (is, tt)
-have_push (b ∷ before) row action_of have is = (have.0, have_push before row action_of have.1 is)
-
 fine_behind : (before rows : List Row) (action_of : ℕ → ℕ → List ℕ) → HaveActions before action_of
     → HaveActions rows action_of → NoClash before rows
 fine_behind before [] action_of have more = tt
 fine_behind before (row ∷ rows) action_of have more = (
-  fine_here before row action_of have more.0,
-  fine_behind (before ++ row ∷ []) rows action_of (have_push before row action_of have more.0) more.1,
+  fine_here before row action_of have (All-head (HasAction action_of) row rows more),
+  fine_behind (before ++ row ∷ []) rows action_of
+      (All-push (HasAction action_of) before row have (All-head (HasAction action_of) row rows more))
+      (All-tail (HasAction action_of) row rows more),
 )
 
 pub actions_again : (rows : List Row) (action_of : ℕ → ℕ → List ℕ) → HaveActions rows action_of → NoClash [] rows
-actions_again rows action_of have = fine_behind [] rows action_of tt have
+actions_again rows action_of have = fine_behind [] rows action_of (All-nil (HasAction action_of)) have

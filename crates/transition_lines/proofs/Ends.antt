@@ -2,7 +2,7 @@
 use Rattle.std.proofs.Common.{◌≡◌, ◌∙◌, ◌<◌, ◌≤◌, ◌⊎◌, inl, inr, ℕ, zero, suc, ◌+◌, ◌-◌, ◌==◌, ◌&&◌, max, Bool, true}
 use Rattle.std.proofs.Common.{false, cond, List, [], ◌∷◌, length, Option, Some, None, option_map, refl, sym, ap, ap₂}
 use Rattle.std.proofs.Common.{subst, arith}
-use Rattle.std.proofs.lemmas.Bool.{cases_Bool}
+use Rattle.std.proofs.lemmas.Bool.{cases_Bool, cases_lt}
 use Rattle.std.proofs.lemmas.Bool.Decides.{nat_tests}
 use Rattle.std.specs.List.{filter, All}
 use Rattle.std.specs.Option.{option_or}
@@ -12,7 +12,6 @@ use Rattle.transition_lines.specs.declared.line.Transition.{Transition}
 use Rattle.transition_lines.specs.Lines.{is_of}
 use Rattle.transition_lines.specs.Choices.{transitions_of, choice_end, least_missing, first_gap, of_state}
 use Rattle.transition_lines.specs.Order.{has, place_of, transition_place}
-use Rattle.transition_lines.proofs.Decisions.{cases_lt}
 use Rattle.transition_lines.proofs.Rows.{same_place}
 
 -- each transition has a small choice

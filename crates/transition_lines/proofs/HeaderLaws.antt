@@ -1,7 +1,7 @@
 -- A header that is read is one that its line spells, and the other way round.
 use Rattle.std.proofs.Common.{◌≡◌, ◌∙◌, ◌<◌, ◌≤◌, inl, inr, ℕ, ◌==◌, ◌||◌, false, cond, List, [], ◌∷◌, map, Option}
 use Rattle.std.proofs.Common.{Some, None, Ok, Err, refl, sym, ap, ap₂, subst, arith, nat_lt}
-use Rattle.std.proofs.lemmas.Bool.{or_parts, ne_eqb}
+use Rattle.std.proofs.lemmas.Bool.{or_parts, ne_eqb, le-ltb, ltb-false}
 use Rattle.std.proofs.lemmas.Bool.Decides.{nat_tests}
 use Rattle.std.specs.Option.{option_map_or, ForSome}
 use Rattle.text_lines.specs.Text.{fields_of, number_of}
@@ -10,7 +10,7 @@ use Rattle.transition_lines.specs.declared.header.Header.{Header}
 use Rattle.transition_lines.specs.declared.fault.TraCause.TheVariants.{OverLimit, NoStates}
 use Rattle.transition_lines.specs.Limits.{most_stated_choices, most_lines}
 use Rattle.transition_lines.specs.Lines.{IsHeader, header_numbers, header_checked, mdp_header, dtmc_header, header_said}
-use Rattle.transition_lines.proofs.Decisions.{chosen, ge_from, ge_test}
+use Rattle.numerals.proofs.Grammar.{chosen}
 
 -- numbers that a header accepts
 record Accepts (n : ℕ) (c : Option ℕ) (m : ℕ) (header : Header) : Type 0 where
@@ -23,12 +23,12 @@ record Accepts (n : ℕ) (c : Option ℕ) (m : ℕ) (header : Header) : Type 0 w
 bounded_from : (c : Option ℕ) → option_map_or (nat_lt most_stated_choices) c false ≡ false
     → ForSome c (λ k. k ≤ most_stated_choices)
 bounded_from None e k is = cc
-bounded_from (Some d) e k is = let same : d ≡ k = cc in omega (arith, same, ge_from most_stated_choices d e)
+bounded_from (Some d) e k is = let same : d ≡ k = cc in omega (arith, same, ltb-false most_stated_choices d e)
 
 bounded_test : (c : Option ℕ) → ForSome c (λ k. k ≤ most_stated_choices)
     → option_map_or (nat_lt most_stated_choices) c false ≡ false
 bounded_test None h = refl
-bounded_test (Some d) h = ge_test most_stated_choices d (h d refl)
+bounded_test (Some d) h = le-ltb most_stated_choices d (h d refl)
 
 not_nought : (n : ℕ) → (n == 0) ≡ false → 0 < n
 not_nought n e = grind (arith, nat_tests)
@@ -51,9 +51,9 @@ checked_found n c m header e =
                 record {
                   is = cc some.1;
                   some = not_nought n some.0;
-                  few = ge_from most_states n first.0;
+                  few = ltb-false most_states n first.0;
                   bounded = bounded_from c second.0;
-                  short = ge_from most_lines m second.1;
+                  short = ltb-false most_lines m second.1;
                 }
           ]
     ]
@@ -62,11 +62,11 @@ checked_again : (n : ℕ) (c : Option ℕ) (m : ℕ) → 0 < n → n ≤ most_st
     → m ≤ most_lines → header_checked n c m ≡ Ok (record { states = n; choices = c; lines = m })
 checked_again n c m some few bounded short =
     ap (λ b. cond (b || (option_map_or (nat_lt most_stated_choices) c false || nat_lt most_lines m)) (Err OverLimit)
-    (cond (n == 0) (Err NoStates) (Ok (record { states = n; choices = c; lines = m })))) (ge_test most_states n few)
+    (cond (n == 0) (Err NoStates) (Ok (record { states = n; choices = c; lines = m })))) (le-ltb most_states n few)
     ∙ ap (λ b. cond (b || nat_lt most_lines m) (Err OverLimit)
     (cond (n == 0) (Err NoStates) (Ok (record { states = n; choices = c; lines = m })))) (bounded_test c bounded)
     ∙ ap (λ b. cond b (Err OverLimit)
-    (cond (n == 0) (Err NoStates) (Ok (record { states = n; choices = c; lines = m })))) (ge_test most_lines m short)
+    (cond (n == 0) (Err NoStates) (Ok (record { states = n; choices = c; lines = m })))) (le-ltb most_lines m short)
     ∙ ap (λ b. cond b (Err NoStates) (Ok (record { states = n; choices = c; lines = m })))
     (ne_eqb n 0 (λ e. omega (arith, e, some)))
 

@@ -1,4 +1,3 @@
-pub mod Decisions
 pub mod Rows
 pub mod Ends
 pub mod Alike

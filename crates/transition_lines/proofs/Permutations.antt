@@ -1,7 +1,7 @@
 -- Transition lines in another order.
 use Rattle.std.proofs.Common.{◌≡◌, ◌∙◌, ◌<◌, ℕ, zero, suc, Bool, true, false, cond, List, [], ◌∷◌, length, map, get_or}
 use Rattle.std.proofs.Common.{set, Result, Ok, Err, refl, sym, ap, ap₂, subst, arith}
-use Rattle.std.specs.List.{filter, All, AllByRecursion, swap}
+use Rattle.std.specs.List.{filter, All, swap}
 use Rattle.std.specs.List.Sorted.{IsPermutation}
 use Rattle.std.proofs.lemmas.List.{nil_from_length}
 use Rattle.std.proofs.lemmas.List.Sorted.{IsPermutation-refl, IsPermutation-trans, IsPermutation-cons}
@@ -14,7 +14,7 @@ use Rattle.distributions.specs.Parts.{DenotesChoice}
 use Rattle.transition_lines.specs.declared.header.Header.{Header}
 use Rattle.transition_lines.specs.declared.line.Transition.{Transition}
 use Rattle.transition_lines.specs.declared.fault.TraCause.{TraCause}
-use Rattle.transition_lines.specs.Lines.{Row, AreRows, is_of, row_said}
+use Rattle.transition_lines.specs.Lines.{Row, AreRows, HasAction, is_of, row_said}
 use Rattle.transition_lines.specs.Choices.{transitions_of, part_of, parts_of, IsState}
 use Rattle.transition_lines.specs.Text.{DenotesGame, transitions}
 use Rattle.transition_lines.proofs.RowLaws.{NumbersFound, NumbersAgain, row_found, row_again}
@@ -129,15 +129,6 @@ rows_from found header (line ∷ lines) all = (
   rows_from found header lines (λ k d h. all (suc k) d (omega (arith, h))),
 )
 
-to_all : {X : Type 0} (P : X → Type 0) (xs : List X) → AllByRecursion P xs → All P xs
-to_all P [] have k d h = absurd (omega (arith, h))
-to_all P (x ∷ xs) have zero d h = have.0
-to_all P (x ∷ xs) have (suc k) d h = to_all P xs have.1 k d (omega (arith, h))
-
-from_all : {X : Type 0} (P : X → Type 0) (xs : List X) → All P xs → AllByRecursion P xs
-from_all P [] all = tt
-from_all P (x ∷ xs) all = (all zero x (omega arith), from_all P xs (λ k d h. all (suc k) d (omega (arith, h))))
-
 -- The order of the transition lines plays no part in which game a text denotes.
 pub text_moved : NumbersFound → NumbersAgain → PartsInAnyOrder
     → (text other first : List ℕ) (lines others : List (List ℕ)) (game : List (List Distribution))
@@ -161,7 +152,6 @@ text_moved found again any text other first lines others game is_text is_other m
     let rows_moved : IsPermutation is.rows rows =
     subst R (ap (λ (rs : List (Result Row TraCause)). map row_in rs) said ∙ rows_in is.rows)
     (IsPermutation-map row_in _ _ said_moved) in
-    let action_is = λ (row : Row). row.action ≡ is.action_of row.transition.source row.transition.choice in
     record {
       first = is.first;
       others = others;
@@ -173,8 +163,7 @@ text_moved found again any text other first lines others game is_text is_other m
       rows = rows;
       are_rows = rows_from found is.header others read;
       action_of = is.action_of;
-      actions = from_all action_is rows
-          (All-permutation action_is is.rows rows rows_moved (to_all action_is is.rows is.actions));
+      actions = All-permutation (HasAction is.action_of) is.rows rows rows_moved is.actions;
       choice_count = is.choice_count;
       made = λ s h. state_moved any (transitions is.rows) (transitions rows) s (is.choice_count s) (choices_of game s)
           (IsPermutation-map (λ (row : Row). row.transition) is.rows rows rows_moved) (is.made s h);

@@ -2,6 +2,7 @@
 use Rattle.std.proofs.Common.{◌≡◌, ◌∙◌, ◌<◌, ◌≤◌, inl, inr, ℕ, ◌+◌, false, cond, List, [], ◌∷◌, ◌++◌, length, Option}
 use Rattle.std.proofs.Common.{Some, None, Result, Ok, Err, refl, sym, ap, ap₂, subst, arith, nat_lt, append_assoc}
 use Rattle.std.proofs.lemmas.List.{length_push}
+use Rattle.std.proofs.lemmas.Bool.{le-ltb, lt-ltb, ltb-false, ltb-true}
 use Rattle.text_lines.specs.Text.{fields_of, is_nil}
 use Rattle.fractions.specs.declared.number.NumberFault.{NumberFault}
 use Rattle.fractions.specs.Fraction.{Fraction}
@@ -17,8 +18,8 @@ use Rattle.transition_lines.specs.Lines.{Row, LineParts, IsRow, AreRows, line_pa
 use Rattle.transition_lines.specs.Lines.{transition_said, row_with, parts_said, row_said, clashes, action_checked}
 use Rattle.transition_lines.specs.Lines.{line_said}
 use Rattle.transition_lines.specs.Lines.{behind, rows_said}
-use Rattle.transition_lines.proofs.Decisions.{chosen, lt_from, ge_from, lt_test, ge_test}
 use Rattle.transition_lines.proofs.Rows.{said_with}
+use Rattle.numerals.proofs.Grammar.{chosen}
 
 -- what a number's text says is what it denotes
 abbrev pub NumbersFound : Type 0
@@ -68,9 +69,9 @@ within_found n i k j share t e =
                         choice = is.1;
                         destination = is.2;
                         is = is.3;
-                        source_in = lt_from i n source.0;
-                        choice_in = lt_from k most_stated_choices low.0;
-                        destination_in = lt_from j n inside.0;
+                        source_in = ltb-true i n source.0;
+                        choice_in = ltb-true k most_stated_choices low.0;
+                        destination_in = ltb-true j n inside.0;
                       }
                 ]
           ]
@@ -81,10 +82,10 @@ within_again : (n i k j : ℕ) (share : Result Fraction NumberFault) → i < n �
 within_again n i k j share source low inside =
     ap (λ b. cond b (cond (nat_lt k most_stated_choices)
     (cond (nat_lt j n) (transition_with i k j share) (Err StateOutOfRange)) (Err OverLimit)) (Err StateOutOfRange))
-    (lt_test i n source)
+    (lt-ltb i n source)
     ∙ ap (λ b. cond b (cond (nat_lt j n) (transition_with i k j share) (Err StateOutOfRange)) (Err OverLimit))
-    (lt_test k most_stated_choices low)
-    ∙ ap (λ b. cond b (transition_with i k j share) (Err StateOutOfRange)) (lt_test j n inside)
+    (lt-ltb k most_stated_choices low)
+    ∙ ap (λ b. cond b (transition_with i k j share) (Err StateOutOfRange)) (lt-ltb j n inside)
 
 -- the parts of a row
 record HasParts (n : ℕ) (parts : LineParts) (row : Row) : Type 0 where
@@ -233,7 +234,7 @@ said_found header before (f ∷ fields) row e =
       | inr past ↦ cc past.1
       | inl room ↦
           let is = action_found before (row_said header (f ∷ fields)) row room.1 in
-          record { is = is.0; room = lt_from (length before) header.lines room.0; fine = is.1 }
+          record { is = is.0; room = ltb-true (length before) header.lines room.0; fine = is.1 }
     ]
 
 pub rows_found : NumbersFound
@@ -249,7 +250,7 @@ rows_found found header number before [] all le e =
             rows = [];
             whole = sym same ∙ sym (append_none before);
             are = tt;
-            size = omega (arith, le, ge_from (length before) header.lines enough.0);
+            size = omega (arith, le, ltb-false (length before) header.lines enough.0);
             fine = tt;
           }
     ]
@@ -292,7 +293,7 @@ pub rows_again : NumbersAgain → (header : Header) (number : ℕ) (before : Lis
     → rows_said header number before lines ≡ Ok (before ++ rows)
 rows_again again header number before [] [] size are fine =
     ap (λ b. cond b (Err (fault_of_all (LineCount (length before) header.lines))) (Ok before))
-    (ge_test (length before) header.lines (omega (arith, size))) ∙ ap (λ rs. Ok rs) (sym (append_none before))
+    (le-ltb (length before) header.lines (omega (arith, size))) ∙ ap (λ rs. Ok rs) (sym (append_none before))
   where
     append_none : (rows : List Row) → rows ++ [] ≡ rows
     append_none [] = refl

@@ -5,6 +5,7 @@ use Rattle.std.proofs.lemmas.Bool.Decides.{nat_tests}
 use Rattle.std.specs.List.{filter, All}
 use Rattle.std.specs.Option.{option_map_or}
 use Rattle.std.specs.Str.{bytes_eq}
+use Rattle.std.proofs.lemmas.Bool.{lt-ltb}
 use Rattle.text_lines.specs.Text.{is_nil}
 use Rattle.transition_lines.specs.Limits.{most_stated_choices}
 use Rattle.transition_lines.specs.declared.header.Header.{Header}
@@ -12,7 +13,6 @@ use Rattle.transition_lines.specs.declared.fault.TraCause.TheVariants.{FieldCoun
 use Rattle.transition_lines.specs.Lines.{Row, is_of, first_action, clashes, row_said, action_checked, line_said}
 use Rattle.transition_lines.specs.Order.{IsWithin, has, place_of}
 use Rattle.transition_lines.specs.Answers.{row_place, action_at, clashes_at}
-use Rattle.transition_lines.proofs.Decisions.{lt_test}
 
 pub same_place : (s c i k : ℕ) → c < 4000000 → k < 4000000
     → ((s == i) && (c == k)) ≡ ((4000000 * s + c) == (4000000 * i + k))
@@ -47,6 +47,6 @@ said_with header before fields row b some room is e =
     ap (λ t. cond t (Err FieldCount) (cond (nat_lt (length before) header.lines)
     (action_checked before (row_said header fields)) (Err (LineCount (header.lines + 1) header.lines)))) some
     ∙ ap (λ t. cond t (action_checked before (row_said header fields))
-    (Err (LineCount (header.lines + 1) header.lines))) (lt_test (length before) header.lines room)
+    (Err (LineCount (header.lines + 1) header.lines))) (lt-ltb (length before) header.lines room)
     ∙ ap (λ r. action_checked before r) is
     ∙ ap (λ t. cond t (Err (ActionClash row.transition.source row.transition.choice)) (Ok row)) e

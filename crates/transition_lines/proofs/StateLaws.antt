@@ -2,7 +2,7 @@
 use Rattle.std.proofs.Common.{◌≡◌, ◌∙◌, ◌<◌, ◌≤◌, ◌⊎◌, inl, inr, ℕ, zero, suc, ◌==◌, nat_lt, Bool, true, false, cond}
 use Rattle.std.proofs.Common.{List, [], ◌∷◌, ◌++◌, length, map, get_or, take, Option, Some, None, option_map, Result}
 use Rattle.std.proofs.Common.{Ok, Err, refl, sym, ap, ap₂, subst, arith, add-one}
-use Rattle.std.proofs.lemmas.Bool.{cases_eq, eqb-true, eq-eqb, ne_eqb}
+use Rattle.std.proofs.lemmas.Bool.{cases_eq, eqb-true, eq-eqb, ne_eqb, cases_lt, le-ltb, ltb-false}
 use Rattle.std.proofs.lemmas.List.{length_push, get_or_append_left, get_or_push, take_more}
 use Rattle.std.proofs.Math.Seq.{take-length}
 use Rattle.std.specs.Option.{option_or, ForSome}
@@ -23,8 +23,8 @@ use Rattle.transition_lines.specs.Choices.{choice_end, least_missing, first_gap,
 use Rattle.transition_lines.specs.Choices.{choice_at, choices_said, state_said, states_said, unless_gap, unless_crowded}
 use Rattle.transition_lines.specs.Choices.{if_as_stated, transitions_game}
 use Rattle.transition_lines.specs.Lines.{is_of}
-use Rattle.transition_lines.proofs.Decisions.{chosen, cases_lt, ge_from, ge_test}
 use Rattle.transition_lines.proofs.Ends.{end_is, end_none, all_there, none_missing, no_gap}
+use Rattle.numerals.proofs.Grammar.{chosen}
 
 -- what the parts of a choice say is what they denote
 abbrev pub ChoicesFound : Type 0
@@ -224,7 +224,8 @@ crowds_found ts (suc n) e s h =
     let P : ℕ → Type 0 = λ i. choice_end ts i ≤ most_choices in
     elim (cases_lt s n) [
       | inl lt ↦ crowds_found ts n both.0 s lt
-      | inr ge ↦ let same : n ≡ s = omega (arith, ge, h) in subst P same (ge_from most_choices (choice_end ts n) both.1)
+      | inr ge ↦
+          let same : n ≡ s = omega (arith, ge, h) in subst P same (ltb-false most_choices (choice_end ts n) both.1)
     ]
   where
     both_none : (o : Option ℕ) (b : Bool) → option_or o (cond b (Some n) None) ≡ None → (o ≡ None) × (b ≡ false)
@@ -237,7 +238,7 @@ pub crowds_again : (ts : List Transition) (n : ℕ) → ((s : ℕ) → s < n →
 crowds_again ts zero all = refl
 crowds_again ts (suc n) all =
     ap₂ (λ o b. option_or o (cond b (Some n) None)) (crowds_again ts n (λ s h. all s (omega (arith, h))))
-    (ge_test most_choices (choice_end ts n) (all n (omega arith)))
+    (le-ltb most_choices (choice_end ts n) (all n (omega arith)))
 
 -- a game that is made of transitions
 pub record MakesGame (ts : List Transition) (n : ℕ) (stated : Option ℕ) (game : List (List Distribution)) : Type 0 where

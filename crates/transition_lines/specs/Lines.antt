@@ -1,7 +1,7 @@
 -- These definitions give what the lines of a transition text say, each by itself and behind those before it.
 use Rattle.std.specs.Prelude.{◌≡◌, ◌<◌, ◌≤◌, ℕ, ◌+◌, ◌==◌, ◌&&◌, ◌||◌, not, nat_lt, Bool, false, List, [], ◌∷◌, ◌++◌}
 use Rattle.std.specs.Prelude.{length, map, slice_get, Option, Some, None, option_map, Result, Ok, Err, if◌then◌else◌}
-use Rattle.std.specs.List.{filter, AllByRecursion}
+use Rattle.std.specs.List.{filter, All, AllZip}
 use Rattle.std.specs.Option.{option_map_or, ForSome}
 use Rattle.std.specs.Str.{bytes_eq}
 use Rattle.text_lines.specs.Text.{fields_of, number_of, is_nil}
@@ -109,15 +109,15 @@ pub record IsRow (header : Header) (line : List ℕ) (row : Row) : Type 0 where
 
 -- Each line says the row in its place.
 abbrev pub AreRows : Header → List (List ℕ) → List Row → Type 0
-AreRows header [] [] = Unit {0}
-AreRows header [] (row ∷ rows) = ⊥
-AreRows header (line ∷ lines) [] = ⊥
-AreRows header (line ∷ lines) (row ∷ rows) = IsRow header line row × AreRows header lines rows
+AreRows header lines rows = AllZip (IsRow header) lines rows
+
+-- The row has the action of its choice.
+abbrev pub HasAction : (ℕ → ℕ → List ℕ) → Row → Type 0
+HasAction action_of row = row.action ≡ action_of row.transition.source row.transition.choice
 
 -- All rows of a choice have its action.
 abbrev pub HaveActions : List Row → (ℕ → ℕ → List ℕ) → Type 0
-HaveActions rows action_of = AllByRecursion (λ row. row.action
-    ≡ action_of row.transition.source row.transition.choice) rows
+HaveActions rows action_of = All (HasAction action_of) rows
 
 -- 2. These definitions go by cases, with the first fault.
 

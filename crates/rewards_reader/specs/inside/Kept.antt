@@ -8,7 +8,7 @@ use Rattle.rewards_reader.specs.declared.fault.RewardsFault.{RewardsFault}
 use Rattle.rewards_reader.specs.declared.fault.RewardsEnd.{RewardsEnd}
 use Rattle.rewards_reader.specs.declared.fault.RewardsEnd.TheVariants.{OutOfMemory, Refused}
 use Rattle.rewards_reader.specs.declared.line.RewardLine.{RewardLine}
-use Rattle.rewards_reader.specs.declared.table.RewardTable.{RewardTable}
+use Rattle.rewards_reader.specs.declared.kept.KeptLines.{KeptLines}
 use Rattle.rewards_reader.specs.Lines.{header_said, next_line, reward_at}
 use Rattle.rewards_reader.specs.Rewards.{IsOfGame, place_of, IsAnswer}
 use Rattle.rewards_reader.specs.Texts.{fault_at, lines_from, said_by_lines}
@@ -20,7 +20,7 @@ pub record AreEntries (game : List (List Distribution)) (lines : List RewardLine
       → slice_index_or entries (place_of game state choice) None ≡ reward_at lines state choice
 
 -- These lines have been read behind the header.
-pub record IsKept (table : RewardTable) (lines : List RewardLine) : Type 0 where
+pub record IsKept (table : KeptLines) (lines : List RewardLine) : Type 0 where
   pub count : length lines ≡ table.count
   pub entries : AreEntries table.game.now lines table.entries.items
 
@@ -35,35 +35,35 @@ IsEndAt number said OutOfMemory = Unit {0}
 IsEndAt number said (Refused fault) = IsFaultAt number said fault
 
 -- The line is the header, behind which nothing is kept yet.
-pub record Begins (game : List (List Distribution)) (line : List ℕ) (table : RewardTable) : Type 0 where
+pub record Begins (game : List (List Distribution)) (line : List ℕ) (table : KeptLines) : Type 0 where
   pub of_game : table.game.now ≡ game
   pub stated : header_said game (fields_of line) ≡ Ok table.stated
   pub kept : IsKept table []
 
 -- The line says the next line behind these, and it is kept with them from now on.
-pub record SaysNext (old new : RewardTable) (line : List ℕ) (before : List RewardLine) : Type 0 where
+pub record SaysNext (old new : KeptLines) (line : List ℕ) (before : List RewardLine) : Type 0 where
   pub next : RewardLine
   pub said : next_line old.game.now old.stated before (fields_of line) ≡ Ok next
   pub kept : IsKept new (before ++ next ∷ [])
 
 -- The line says the next line behind those that are kept, and it is kept with them from now on.
-pub record TakesLine (old new : RewardTable) (line : List ℕ) : Type 0 where
+pub record TakesLine (old new : KeptLines) (line : List ℕ) : Type 0 where
   pub game : new.game.now ≡ old.game.now
   pub stated : new.stated ≡ old.stated
   pub next : (before : List RewardLine) → IsKept old before → SaysNext old new line before
 
 -- The end is the fault of the line of this number behind those that are kept, or memory ran out.
-abbrev pub RefusesLine : RewardTable → ℕ → List (List ℕ) → RewardsEnd → Type 0
+abbrev pub RefusesLine : KeptLines → ℕ → List (List ℕ) → RewardsEnd → Type 0
 RefusesLine table number fields end = (before : List RewardLine) → IsKept table before
     → IsEndAt number (next_line table.game.now table.stated before fields) end
 
 -- The answer is right if these lines come next, the first of which has this number, behind those that are kept.
-abbrev pub IsRightBehind : RewardTable → ℕ → List (List ℕ) → Result (List (Option Fraction)) RewardsEnd → Type 0
+abbrev pub IsRightBehind : KeptLines → ℕ → List (List ℕ) → Result (List (Option Fraction)) RewardsEnd → Type 0
 IsRightBehind table number lines answer = (before : List RewardLine) → IsKept table before
     → IsAnswer table.game.now (lines_from table.game.now table.stated before number lines) answer
 
 -- The answer is right if these lines come next, the first of which has this number. Before the header nothing is kept.
-abbrev pub IsRight : List (List Distribution) → Option RewardTable → ℕ → List (List ℕ)
+abbrev pub IsRight : List (List Distribution) → Option KeptLines → ℕ → List (List ℕ)
     → Result (List (Option Fraction)) RewardsEnd → Type 0
 IsRight game None number lines answer = number ≡ 1 → IsAnswer game (said_by_lines game lines) answer
 IsRight game (Some table) number lines answer = IsRightBehind table number lines answer

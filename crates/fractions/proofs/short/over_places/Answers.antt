@@ -3,7 +3,8 @@ use Rattle.std.proofs.Common.{rules, arith}
 use Prim.Native.Nat.{◌∣◌}
 use Rattle.text_lines.specs.Text.{is_digit, value_onto}
 use Rattle.fractions.proofs.Factors.{pow_divides}
-use Rattle.fractions.proofs.Spelled.{digit-most, digit_step, digits_behind, places_room, next_power, power_fits}
+use Rattle.numerals.proofs.Spelled.{digit-most, digit_step, digits_behind}
+use Rattle.fractions.proofs.Powers.{places_room, next_power, power_fits}
 use Rattle.fractions.proofs.short.over_places.Goals as goal
 
 pub loop-b-init : goal.loop-b-init

@@ -1,8 +1,9 @@
 use Rattle.std.proofs.Common.{◌∙◌, length, sym, ap, arith}
-use Rattle.fractions.specs.Number.{Decimal, fraction_said}
-use Rattle.fractions.proofs.Spelled.{digits_room, digits_room_behind}
+use Rattle.numerals.specs.Spelling.{Decimal}
+use Rattle.fractions.specs.Number.{fraction_said}
+use Rattle.numerals.proofs.Spelled.{digits_room, digits_room_behind}
 use Rattle.rewards_reader.specs.Amounts.{amount_of}
-use Rattle.rewards_reader.specs.inside.Written.{exponent_in}
+use Rattle.numerals.specs.Written.{exponent_in}
 use Rattle.rewards_reader.proofs.Amounts.{large-spelled, short-decimal, short-amount, decimal-below, decimal-above}
 use Rattle.rewards_reader.proofs.large.large_decimal.Goals as goal
 

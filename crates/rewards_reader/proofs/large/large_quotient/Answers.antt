@@ -1,5 +1,5 @@
-use Rattle.fractions.specs.Number.{Quotient}
-use Rattle.fractions.proofs.Spelled.{digits_room}
+use Rattle.numerals.specs.Spelling.{Quotient}
+use Rattle.numerals.proofs.Spelled.{digits_room}
 use Rattle.rewards_reader.proofs.Amounts.{large-spelled, short-quotient}
 use Rattle.rewards_reader.proofs.large.large_quotient.Goals as goal
 
