@@ -19,7 +19,7 @@ use Rattle.game_model.proofs.Choices.{IsChoiceOf, AreChoicesOf, AreChoicesOf-cho
 use Rattle.game_model.proofs.Best.{optimum-each}
 use Rattle.game_model.proofs.Rises.{numerator_of-rises, numerator_of-goal}
 use Rattle.game_laws.proofs.Positive.{optimum-affine, quotient-pos}
-use Rattle.attractors.specs.Attractor.{meets, serves, attracts, is_attracted, AreGoals, Grew, from_goals, with_state}
+use Rattle.attractors.specs.Attractor.{serves, attracts, is_attracted, AreGoals, Grew, from_goals, with_state}
 use Rattle.attractors.proofs.Tests.{any-place, any-none, all-each}
 use Rattle.attractors.proofs.Meeting.{meets-successor}
 use Rattle.attractors.proofs.Serving.{serves-both}

@@ -1,8 +1,7 @@
 -- Traps are closed sets.
-use Rattle.std.proofs.Common.{◌≡◌, ◌≢◌, ℕ, ◌<◌, true, List, length, arith, refl, sym, subst, Option, None}
+use Rattle.std.proofs.Common.{◌≡◌, ◌≢◌, ℕ, ◌<◌, true, List, arith, refl, sym, subst, Option, None}
 use Rattle.std.specs.Prelude.{slice_index, slice_index_or, IsSomeAnd}
 use Rattle.std.proofs.lemmas.Bool.{eq-eqb, eqb-true}
-use Rattle.game_model.specs.Game.{choices_of}
 use Rattle.game_model.specs.declared.game.Side.TheVariants.{Min}
 use Rattle.game_model.specs.Query.{Query, states, side_at}
 use Rattle.fixed_bellman.specs.Given.{IsFree}

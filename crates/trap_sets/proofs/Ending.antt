@@ -1,9 +1,8 @@
 -- Parts whose states reach each other, less the states that have no inner choice, are end components.
-use Rattle.std.proofs.Common.{◌≡◌, ◌≢◌, ℕ, zero, suc, ◌+◌, ◌-◌, ◌<◌, ◌≤◌, true, List, length, arith, sym, ◌∙◌, subst}
+use Rattle.std.proofs.Common.{◌≡◌, ◌≢◌, ℕ, zero, suc, ◌+◌, ◌-◌, ◌<◌, ◌≤◌, List, arith, sym, ◌∙◌, subst}
 use Rattle.std.proofs.Common.{inl, inr, Option}
 use Rattle.std.specs.Prelude.{slice_index}
 use Rattle.std.proofs.lemmas.Bool.{cases_eq}
-use Rattle.game_model.specs.Game.{choices_of}
 use Rattle.game_model.specs.Query.{Query, states}
 use Rattle.trap_sets.specs.Moves.{Walk}
 use Rattle.trap_sets.specs.inside.Each.{IsEach}

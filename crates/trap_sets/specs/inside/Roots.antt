@@ -1,5 +1,5 @@
 -- This module defines the roots of parts, and the numbers of the parts.
-use Rattle.std.specs.Prelude.{◌≡◌, ℕ, zero, suc, ◌+◌, ◌<◌, ◌==◌, List, length, slice_index, if◌then◌else◌}
+use Rattle.std.specs.Prelude.{◌≡◌, ℕ, zero, suc, ◌+◌, ◌==◌, List, length, slice_index, if◌then◌else◌}
 use Rattle.trap_sets.specs.inside.Each.{IsEach}
 
 -- This many of the first states are roots.
