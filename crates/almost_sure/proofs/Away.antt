@@ -95,8 +95,7 @@ pub far-by-one : (q : Query) (gone : List Bool) (e k : ℕ) (m : Distribution) �
 far-by-one q gone e k m posed fits away meet =
     let D : ℕ = denominator q.game in
     let positive : 0 < D = denominator-pos q.game posed.game in
-    let one : (i : ℕ) × (i < length m.edges) × (slice_index_or gone (get_or m.edges i no_edge).to false ≡ true) =
-    meets-successor gone m meet in
+    let one = meets-successor gone m meet in
     let u : ℕ = (get_or m.edges one.0 no_edge).to in
     let there : numerator q k u * D ^ e + D ^ k ≤ D ^ (e + k) =
     away u (AllByRecursion-at (λ (e : Edge). e.to < length q.game) m.edges one.0 no_edge one.1 fits.inside) one.2 k in
@@ -155,7 +154,7 @@ side-away q e k s Max is_side posed inside far =
 side-away q e k s Min is_side posed inside far =
     let D : ℕ = denominator q.game in
     let f : Distribution → ℕ = λ m. D / m.total * weighted_sum (numerator q k) m.edges in
-    let one : (c : ℕ) × (c < length (choices_of q.game s)) × IsFar q e k (choice_of q.game s c) = far.least is_side in
+    let one = far.least is_side in
     let here : f (choice_of q.game s one.0) * D ^ suc e + D ^ suc k ≤ D ^ (suc e + suc k) = one.2 in
     let below : optimum Min f (choices_of q.game s) ≤ f (choice_of q.game s one.0) =
     optimum-below f (choices_of q.game s) one.0 no_distribution one.1 in
@@ -253,9 +252,7 @@ side-left q gone set e k s posed inside away left fails = record {
       (any-fails gone set (choices_of q.game s) c l
       (sym (ap (λ side. attracts side (gone_barred gone) set (choices_of q.game s)) is_side) ∙ fails));
   least = λ is_side.
-      let one : (c : ℕ) × (c < length (choices_of q.game s))
-      × (serves (gone_barred gone) set (choice_of q.game s c) ≡ false) =
-      all-place (serves (gone_barred gone) set) (choices_of q.game s) no_distribution
+      let one = all-place (serves (gone_barred gone) set) (choices_of q.game s) no_distribution
       (sym (ap (λ side. attracts side (gone_barred gone) set (choices_of q.game s)) is_side) ∙ fails) in (
         one.0,
         one.1,

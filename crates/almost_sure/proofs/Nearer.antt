@@ -19,7 +19,7 @@ use Rattle.game_model.proofs.Choices.{IsChoiceOf, AreChoicesOf, AreChoicesOf-cho
 use Rattle.game_model.proofs.Best.{optimum-each}
 use Rattle.game_model.proofs.Rises.{numerator_of-rises, numerator_of-goal}
 use Rattle.game_laws.proofs.Positive.{optimum-affine, quotient-pos}
-use Rattle.attractors.specs.Attractor.{meets, serves, attracts, is_attracted, AreGoals, Grew, from_goals, with_state}
+use Rattle.attractors.specs.Attractor.{serves, attracts, is_attracted, AreGoals, Grew, from_goals, with_state}
 use Rattle.attractors.proofs.Tests.{any-place, any-none, all-each}
 use Rattle.attractors.proofs.Meeting.{meets-successor}
 use Rattle.attractors.proofs.Serving.{serves-both}
@@ -80,9 +80,8 @@ choice-nearer : (q : Query) (gone set : List Bool) (v : ℕ → ℕ) (p h g : �
     → serves (gone_barred gone) set m ≡ true
     → denominator q.game * p + g ≤ denominator q.game / m.total * weighted_sum v m.edges + denominator q.game * h
 choice-nearer q gone set v p h g m positive fits outer inner serve =
-    let both : (meets gone m ≡ false) × (meets set m ≡ true) = serves-both (gone_barred gone) set m serve in
-    let one : (i : ℕ) × (i < length m.edges) × (slice_index_or set (get_or m.edges i no_edge).to false ≡ true) =
-    meets-successor set m both.1 in
+    let both = serves-both (gone_barred gone) set m serve in
+    let one = meets-successor set m both.1 in
     let edges : AllByRecursion (λ (e : Edge). (1 ≤ e.weight) × (p ≤ v e.to + h)) m.edges =
     AllByRecursion-both (λ (e : Edge). 1 ≤ e.weight) (λ (e : Edge). p ≤ v e.to + h) m.edges fits.weights
     (AllByRecursion-weaker (λ (e : Edge). (e.to < length q.game) × (slice_index_or gone e.to false ≡ false)) _
@@ -107,9 +106,7 @@ side-nearer : (q : Query) (gone set : List Bool) (v : ℕ → ℕ) (p h g s : �
     + denominator q.game * h
 side-nearer q gone set v p h g s Max is_side positive chosen inside outer inner drawn =
     let f : Distribution → ℕ = λ m. denominator q.game / m.total * weighted_sum v m.edges in
-    let one : (c : ℕ) × (c < length (choices_of q.game s))
-    × (serves (gone_barred gone) set (choice_of q.game s c) ≡ true) =
-    any-place (serves (gone_barred gone) set) (choices_of q.game s) no_distribution drawn in
+    let one = any-place (serves (gone_barred gone) set) (choices_of q.game s) no_distribution drawn in
     let here : denominator q.game * p + g ≤ f (choice_of q.game s one.0) + denominator q.game * h =
     choice-nearer q gone set v p h g (choice_of q.game s one.0) positive
     (AllByRecursion-at (IsChoiceOf q.game) (choices_of q.game s) one.0 no_distribution one.1 (chosen.each s))

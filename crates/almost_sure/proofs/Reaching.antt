@@ -70,7 +70,7 @@ pub IsAway-not_sure : (q : Query) (e s : ℕ) → IsQuery q → IsAway q e s →
 IsAway-not_sure q e s posed away sure =
     let D : ℕ = denominator q.game in
     let positive : 0 < D = denominator-pos q.game posed.game in
-    let at : (k : ℕ) × ((D ^ e + 1) * D ^ k ≤ (D ^ e + 1) * numerator q k s + D ^ k) = sure (D ^ e + 1) (omega arith) in
+    let at = sure (D ^ e + 1) (omega arith) in
     both-ways (D ^ e) (numerator q at.0 s) (D ^ at.0) (one-le-pow at.0 D positive)
     (subst (λ x. numerator q at.0 s * D ^ e + D ^ at.0 ≤ x) (pow-add D e at.0) (away at.0)) at.1
 

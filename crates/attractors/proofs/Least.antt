@@ -3,15 +3,15 @@ use Rattle.std.proofs.Common.{◌≡◌, ℕ, ◌<◌, Bool, true, false, List, 
 use Rattle.std.specs.Prelude.{slice_index_or}
 use Rattle.std.proofs.lemmas.Bool.{cases_eq, cases_lt, cases_Bool}
 use Rattle.std.proofs.lemmas.List.{get_or-set_other, get_or_past, ext_get_or}
+use Rattle.std.proofs.lemmas.List.Sums.{AllPass-from_list_all}
 use Rattle.game_model.specs.declared.game.Side.{Side}
 use Rattle.game_model.specs.declared.game.Side.TheVariants.{Max, Min}
 use Rattle.game_model.specs.Game.{no_distribution, choices_of}
 use Rattle.game_model.specs.Query.{Query, states, is_goal, side_at}
-use Rattle.game_model.proofs.Each.{AllByRecursion-at}
 use Rattle.attractors.specs.Attractor.{Barred, serves, attracts, is_attracted, Grew, from_goals, with_state, IsClosed}
 use Rattle.attractors.specs.Attractor.{IsAttractor}
 use Rattle.attractors.specs.Growing.{IsLarger}
-use Rattle.attractors.proofs.Tests.{any-place, all-each}
+use Rattle.attractors.proofs.Tests.{any-place}
 use Rattle.attractors.proofs.Serving.{attracts-one, attracts-all}
 use Rattle.attractors.proofs.Grown.{Grew-goals}
 use Rattle.attractors.proofs.Following.{serves-more}
@@ -24,12 +24,11 @@ attracted-more q barred set more s Max is_side larger h =
     (sym (ap (λ side. attracts side barred set (choices_of q.game s)) is_side) ∙ h) in
     attracts-one q barred more s some.0 is_side some.1 (serves-more barred set more q s some.0 larger some.2)
 attracted-more q barred set more s Min is_side larger h =
-    let all = all-each (serves barred set) (choices_of q.game s)
+    let all = AllPass-from_list_all (serves barred set) (choices_of q.game s)
     (sym (ap (λ side. attracts side barred set (choices_of q.game s)) is_side) ∙ h) in
-    attracts-all q barred more s is_side (λ c l. serves-more barred set more q s c larger
-    (AllByRecursion-at (λ m. serves barred set m ≡ true) (choices_of q.game s) c no_distribution l all))
+    attracts-all q barred more s is_side (λ c l. serves-more barred set more q s c larger (all c no_distribution l))
 
-member-inside : (set : List Bool) (s : ℕ) → slice_index_or set s false ≡ true → s < length set
+pub member-inside : (set : List Bool) (s : ℕ) → slice_index_or set s false ≡ true → s < length set
 member-inside set s member = elim (cases_lt s (length set)) [
   | inl below ↦ below
   | inr past ↦ let none : slice_index_or set s false ≡ false = get_or_past set s false past in absurd (cc)

@@ -1,7 +1,9 @@
 -- What a test of a list says of its elements.
 use Rattle.std.proofs.Common.{◌≡◌, ℕ, zero, suc, ◌<◌, Bool, true, false, List, [], ◌∷◌, length, get_or, arith, inl, inr}
 use Rattle.std.specs.List.{AllByRecursion, list_any, list_all}
-use Rattle.std.proofs.lemmas.Bool.{or_cases, or_parts, and_parts, and_cases}
+use Rattle.std.proofs.lemmas.Bool.{or_cases, or_parts, and_cases}
+use Rattle.std.proofs.lemmas.List.Elements.{recursion_from_All}
+use Rattle.std.proofs.lemmas.List.Sums.{AllPass-from_list_all}
 
 pub any-place : {X : Type 0} (p : X → Bool) (xs : List X) (d : X) → list_any p xs ≡ true
     → (i : ℕ) × (i < length xs) × (p (get_or xs i d) ≡ true)
@@ -20,10 +22,7 @@ any-none p (x ∷ xs) h =
     (both.0, any-none p xs both.1)
 
 pub all-each : {X : Type 0} (p : X → Bool) (xs : List X) → list_all p xs ≡ true → AllByRecursion (λ x. p x ≡ true) xs
-all-each p [] h = tt
-all-each p (x ∷ xs) h =
-    let both : (p x ≡ true) × (list_all p xs ≡ true) = and_parts (p x) (list_all p xs) h in
-    (both.0, all-each p xs both.1)
+all-each p xs h = recursion_from_All _ xs (AllPass-from_list_all p xs h)
 
 pub all-place : {X : Type 0} (p : X → Bool) (xs : List X) (d : X) → list_all p xs ≡ false
     → (i : ℕ) × (i < length xs) × (p (get_or xs i d) ≡ false)

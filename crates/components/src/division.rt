@@ -123,12 +123,7 @@ pub fn component_numbers<K: Keeps>(
 fn all_below(list: &[u32], bound: u32) -> bool
     ensures { IsTrue result → ((k : ℕ) → k < length list.now → slice_index list.now k < bound) }
 {
-    for place in 0..list.len() {
-        if list[place] >= bound {
-            return false;
-        }
-    }
-    true
+    list.iter().all(|number| *number < bound)
 }
 
 /// Returns a list of this many zeros.

@@ -24,10 +24,10 @@ struct Seen {
     place: u32,
 }
 
-/// A search under way has met `met` states and closed `count` components. The numbers give the order in which states were
-/// met: a number is 0 until its state is met, and `CLOSED` once the state has a component. They are a list of their
-/// own because they are all that is read for every edge. `path` leads to the current state. `waiting` has the states
-/// that were met and have no component yet.
+/// A search under way has met `met` states and closed `count` components. The numbers give the order in which states
+/// were met: a number is 0 until its state is met, and `CLOSED` once the state has a component. They are a list of
+/// their own because they are all that is read for every edge. `path` leads to the current state. `waiting` has the
+/// states that were met and have no component yet.
 #[derive(Drop)]
 pub struct Search {
     pub states: u32,

@@ -173,10 +173,10 @@ fn upper_table(
 
 /// Returns the entries of a table as values.
 fn shown_values(alloc: Global, table: &UnitTable) -> Result<Vec<f64>, OutOfMemory> {
-    let mut values = Vec::with_capacity(alloc, table.entries().len())?;
-    for entry in table.entries() {
-        values.push(nearest_u64_to_f64(*entry))?;
-    }
+    let entries = table.entries().iter();
+    let values = entries
+        .map(|entry| nearest_u64_to_f64(*entry))
+        .collect(alloc)?;
     Ok(values)
 }
 

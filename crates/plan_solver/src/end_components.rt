@@ -147,10 +147,7 @@ fn open_question<'q>(alloc: Global, frame: &Frame<'_, 'q>) -> Result<Question<'q
 fn played(alloc: Global, replies: &[u32]) -> Result<Vec<Option<u32>>, OutOfMemory>
     ensures { IfOk result (λ list. vec_len list ≡ length replies.now) }
 {
-    let mut list = Vec::with_capacity(alloc, replies.len())?;
-    for reply in replies {
-        list.push(Some(*reply))?;
-    }
+    let list = replies.iter().map(|reply| Some(*reply)).collect(alloc)?;
     Ok(list)
 }
 

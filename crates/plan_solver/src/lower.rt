@@ -99,10 +99,9 @@ pub(crate) fn note_value(values: &mut [f64], state: u32, value: f64) {
 
 /// Returns the numbers below this one.
 pub(crate) fn numbers(alloc: Global, end: usize) -> Result<Vec<u32>, OutOfMemory> {
-    let mut list = Vec::with_capacity(alloc, end)?;
-    for number in 0..end {
-        list.push(u32::try_from(number).unwrap_or(u32::MAX))?;
-    }
+    let list = (0..end)
+        .map(|number| u32::try_from(number).unwrap_or(u32::MAX))
+        .collect(alloc)?;
     Ok(list)
 }
 

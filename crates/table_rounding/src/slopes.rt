@@ -98,11 +98,7 @@ fn is_nearer(bound: Bound, entries: &[u64], others: &[u64]) -> bool {
 
 /// Returns the sum of entries.
 fn sum_of(entries: &[u64]) -> u128 {
-    let mut sum: u128 = 0;
-    for entry in entries {
-        sum = sum.saturating_add(u128::from(*entry));
-    }
-    sum
+    entries.iter().fold(0, |sum: u128, entry| sum.saturating_add(u128::from(*entry)))
 }
 
 /// Plans the maximiser's choices of a lower table by a policy. An upper table has choices of the minimiser, and the

@@ -1,8 +1,7 @@
 -- Traps are closed sets.
-use Rattle.std.proofs.Common.{◌≡◌, ◌≢◌, ℕ, ◌<◌, true, List, length, arith, refl, sym, subst, Option, None}
+use Rattle.std.proofs.Common.{◌≡◌, ◌≢◌, ℕ, ◌<◌, true, List, arith, refl, sym, subst, Option, None}
 use Rattle.std.specs.Prelude.{slice_index, slice_index_or, IsSomeAnd}
 use Rattle.std.proofs.lemmas.Bool.{eq-eqb, eqb-true}
-use Rattle.game_model.specs.Game.{choices_of}
 use Rattle.game_model.specs.declared.game.Side.TheVariants.{Min}
 use Rattle.game_model.specs.Query.{Query, states, side_at}
 use Rattle.fixed_bellman.specs.Given.{IsFree}
@@ -28,8 +27,7 @@ module _ (q : Query) (replies : List (Option ℕ)) (of : List ℕ) (count : ℕ)
     free = λ s ls some. (trap-at s some).component.free s (in-trap s);
     replied = λ s ls some least.
         let trap : IsTrap q replies (numbered of (slice_index of s)) = trap-at s some in
-        let one : (c : ℕ) × (c < length (choices_of q.game s)) × (trap.listed s c ≡ true) =
-        trap.component.chosen s (in-trap s) in
+        let one = trap.component.chosen s (in-trap s) in
         let cut : IsCut q replies s one.0 = trap.component.cut s one.0 (in-trap s) one.1 one.2 in
         let stays : Stays q of s one.0 = λ t leads. eqb-true (slice_index of t) (slice_index of s)
         (trap.component.closed s one.0 t (in-trap s) one.1 one.2 leads) in

@@ -1,11 +1,11 @@
 -- Parts whose states reach each other, less the states that have no inner choice, are end components.
-use Rattle.std.proofs.Common.{◌≡◌, ◌≢◌, ℕ, zero, suc, ◌+◌, ◌-◌, ◌<◌, ◌≤◌, true, List, length, arith, sym, ◌∙◌, subst, inl, inr}
-use Rattle.std.proofs.Common.{Option}
+use Rattle.std.proofs.Common.{◌≡◌, ◌≢◌, ℕ, zero, suc, ◌+◌, ◌-◌, ◌<◌, ◌≤◌, List, arith, sym, ◌∙◌, subst}
+use Rattle.std.proofs.Common.{inl, inr, Option}
 use Rattle.std.specs.Prelude.{slice_index}
 use Rattle.std.proofs.lemmas.Bool.{cases_eq}
-use Rattle.game_model.specs.Game.{choices_of}
 use Rattle.game_model.specs.Query.{Query, states}
 use Rattle.trap_sets.specs.Moves.{Walk}
+use Rattle.trap_sets.specs.inside.Each.{IsEach}
 use Rattle.trap_sets.specs.inside.Parts.{IsInner, IsStep, Comes, IsRooted}
 use Rattle.trap_sets.specs.inside.Settled.{KeepsEnds, AreJoined, AreSettled, IsKept}
 use Rattle.trap_sets.proofs.Keeping.{ends-inner}
@@ -20,19 +20,19 @@ first-step q replies part (suc n) s t walk other =
     (step.choice, step.inner)
 
 module _ (q : Query) (replies : List (Option ℕ)) (class part : List ℕ) (h : KeepsEnds q replies class)
-    (rooted : IsRooted class) (joined : AreJoined q replies class) (many : length part ≡ states q)
-    (each : (s : ℕ) → s < states q → IsKept q replies class s (slice_index part s)) where
+    (rooted : IsRooted class) (joined : AreJoined q replies class)
+    (k : IsEach (IsKept q replies class) part (states q)) where
   inside : (s : ℕ) → slice_index part s ≢ 0 → s < states q
-  inside s some = omega (arith, within part s some, many)
+  inside s some = omega (arith, within part s some, k.many)
 
   refines : (s : ℕ) → slice_index part s ≢ 0 → slice_index part s ≡ slice_index class s
-  refines s some = elim (each s (inside s some)) [
+  refines s some = elim (k.each s (inside s some)) [
     | inl lost ↦ absurd (some lost.0)
     | inr kept ↦ kept.0
   ]
 
   inner-was : (s : ℕ) → slice_index part s ≢ 0 → (c : ℕ) × IsInner q replies class s c
-  inner-was s some = elim (each s (inside s some)) [
+  inner-was s some = elim (k.each s (inside s some)) [
     | inl lost ↦ absurd (some lost.0)
     | inr kept ↦ kept.1
   ]
@@ -44,21 +44,21 @@ module _ (q : Query) (replies : List (Option ℕ)) (class part : List ℕ) (h : 
   whole : (s t : ℕ) → slice_index part s ≢ 0 → slice_index class t ≡ slice_index class s → slice_index part t ≢ 0
   whole s t some same =
       let there : slice_index class t ≢ 0 = λ none. live s some (sym same ∙ none) in
-      elim (each t (omega (arith, within class t there, h.many))) [
+      elim (k.each t (omega (arith, within class t there, h.many))) [
         | inr kept ↦ λ none. there (sym kept.0 ∙ none)
         | inl lost ↦ elim (cases_eq t s) [
           | inl here ↦
-              let one : (c : ℕ) × IsInner q replies class s c = inner-was s some in
+              let one = inner-was s some in
               absurd (lost.1 one.0 (subst (λ u. IsInner q replies class u one.0) (sym here) one.1))
           | inr other ↦
               let comes : Comes q replies class t s = joined t s there same in
-              let one : (c : ℕ) × IsInner q replies class t c = first-step q replies class comes.0 t s comes.1 other in
+              let one = first-step q replies class comes.0 t s comes.1 other in
               absurd (lost.1 one.0 one.1)
         ]
       ]
 
   kept-number : (s : ℕ) (c : ℕ) → s < states q → IsInner q replies class s c → slice_index part s ≡ slice_index class s
-  kept-number s c ls inner = elim (each s ls) [
+  kept-number s c ls inner = elim (k.each s ls) [
     | inl lost ↦ absurd (lost.1 c inner)
     | inr kept ↦ kept.0
   ]
@@ -87,15 +87,15 @@ module _ (q : Query) (replies : List (Option ℕ)) (class part : List ℕ) (h : 
   pub AreSettled-kept : AreSettled q replies part
   AreSettled-kept = record {
     keeps = record {
-      many = many;
+      many = k.many;
       free = λ s ls some. h.free s ls (live s some);
       kept = λ member listed component s in' none.
-          let one : (c : ℕ) × (c < length (choices_of q.game s)) × (listed s c ≡ true) = component.chosen s in' in
+          let one = component.chosen s in' in
           h.kept member listed component s in' (sym (kept-number s one.0 (component.inside s in')
           (ends-inner q replies class member listed s one.0 h component in' one.1 one.2)) ∙ none);
       joined = λ member listed component s t in' in''.
-          let one : (c : ℕ) × (c < length (choices_of q.game s)) × (listed s c ≡ true) = component.chosen s in' in
-          let two : (c : ℕ) × (c < length (choices_of q.game t)) × (listed t c ≡ true) = component.chosen t in'' in
+          let one = component.chosen s in' in
+          let two = component.chosen t in'' in
           kept-number s one.0 (component.inside s in')
           (ends-inner q replies class member listed s one.0 h component in' one.1 one.2)
           ∙ h.joined member listed component s t in' in''
@@ -114,7 +114,7 @@ module _ (q : Query) (replies : List (Option ℕ)) (class part : List ℕ) (h : 
       ];
     };
     inner = λ s ls some.
-        let one : (c : ℕ) × IsInner q replies class s c = inner-was s some in (
+        let one = inner-was s some in (
           one.0,
           record { some = some; cut = one.1.cut; stays = λ t leads. stays-now s t some (one.1.stays t leads) },
         );

@@ -1,6 +1,6 @@
 -- Parts that cut no end component.
-use Rattle.std.proofs.Common.{◌≡◌, ◌≢◌, ℕ, zero, suc, ◌+◌, ◌-◌, ◌<◌, ◌≤◌, Bool, true, List, length, set, arith, sym, ◌∙◌}
-use Rattle.std.proofs.Common.{ap, subst, inl, inr, Option}
+use Rattle.std.proofs.Common.{◌≡◌, ◌≢◌, ℕ, zero, suc, ◌+◌, ◌-◌, ◌<◌, ◌≤◌, Bool, true, List, length, set, arith, sym}
+use Rattle.std.proofs.Common.{◌∙◌, ap, subst, inl, inr, Option}
 use Rattle.std.specs.Prelude.{slice_index}
 use Rattle.std.proofs.lemmas.Bool.{cases_lt}
 use Rattle.std.proofs.lemmas.List.{get_or-set_same, get_or-set_other, get_or_past, length-set}
@@ -10,7 +10,8 @@ use Rattle.trap_sets.specs.Ends.{IsMove, IsEndComponent}
 use Rattle.trap_sets.specs.Moves.{Leads, Walk, Reach}
 use Rattle.trap_sets.specs.inside.Parts.{IsInner, IsStep, IsRooted}
 use Rattle.trap_sets.specs.inside.Settled.{KeepsEnds}
-use Rattle.trap_sets.specs.inside.Naming.{IsNaming}
+use Rattle.trap_sets.specs.inside.Each.{IsEach}
+use Rattle.trap_sets.specs.inside.Naming.{IsClass, IsNaming}
 use Rattle.trap_sets.proofs.Zeros.{within}
 
 -- the listed choices of an end component are inner
@@ -36,7 +37,7 @@ module _ (q : Query) (replies : List (Option ℕ)) (part : List ℕ) (s : ℕ) (
       → member t ≡ true → t ≢ s
   outside member listed component t in' same =
       let here : member s ≡ true = subst (λ u. member u ≡ true) same in' in
-      let one : (c : ℕ) × (c < length (choices_of q.game s)) × (listed s c ≡ true) = component.chosen s here in
+      let one = component.chosen s here in
       none one.0 (ends-inner q replies part member listed s one.0 h component here one.1 one.2)
 
   pub KeepsEnds-without : KeepsEnds q replies (set part s 0)
@@ -71,51 +72,68 @@ module _ (q : Query) (replies : List (Option ℕ)) (part : List ℕ) (h : KeepsE
       )
 
   -- of components in the order of play one has all states of an end component
-  module _ (component names class : List ℕ) (order : (s d t : ℕ) → s < states q → IsInner q replies part s d
-      → Leads q s d t → slice_index component t ≤ slice_index component s) where
+  module _ (component : List ℕ) (order : (s d t : ℕ) → s < states q → IsInner q replies part s d → Leads q s d t
+      → slice_index component t ≤ slice_index component s) where
     walk-falls : (n s t : ℕ) → Walk (IsStep q replies part) n s t → slice_index component t ≤ slice_index component s
     walk-falls zero s t walk = omega (arith, ap (slice_index component) walk)
     walk-falls (suc n) s t walk =
         let step : IsStep q replies part s walk.0 = walk.1 in
         omega (arith, walk-falls n walk.0 t walk.2, order s step.choice walk.0 step.state step.inner step.leads)
 
-    pub KeepsEnds-named : IsNaming part component names class (states q) → KeepsEnds q replies class
-    KeepsEnds-named k = record {
-      many = k.many;
-      free = λ s ls some. h.free s ls (λ none. some (k.out s ls none));
-      kept = λ member listed ends s in'. k.given s (ends.inside s in') (h.kept member listed ends s in');
-      joined = λ member listed ends s t in' in''.
-          let forth : Reach (IsMove q listed) s t = ends.joined s t in' in'' in
-          let around : Reach (IsMove q listed) t s = ends.joined t s in'' in' in
-          let same : slice_index component s ≡ slice_index component t = omega (
+    pub KeepsEnds-classes : (class : List ℕ)
+        → IsEach (λ s. IsClass (slice_index part s) (slice_index component s)) class (states q)
+        → KeepsEnds q replies class
+    KeepsEnds-classes class k =
+        let counted : (s : ℕ) → s < states q → slice_index part s ≢ 0
+        → slice_index class s ≡ slice_index component s + 1 = λ s ls. (k.each s ls).counted in
+        record {
+          many = k.many;
+          free = λ s ls some. h.free s ls (λ none. some ((k.each s ls).out none));
+          kept = λ member listed ends s in' none. absurd (omega (
             arith,
-            walk-falls forth.0 s t (walk-inner member listed ends forth.0 s t in' forth.1),
-            walk-falls around.0 t s (walk-inner member listed ends around.0 t s in'' around.1),
-          ) in
-          k.named s (ends.inside s in') (h.kept member listed ends s in') ∙ ap (slice_index names) same
-          ∙ sym (k.named t (ends.inside t in'') (h.kept member listed ends t in''));
-    }
+            counted s (ends.inside s in') (h.kept member listed ends s in'),
+            none,
+          ));
+          joined = λ member listed ends s t in' in''.
+              let forth : Reach (IsMove q listed) s t = ends.joined s t in' in'' in
+              let around : Reach (IsMove q listed) t s = ends.joined t s in'' in' in
+              omega (
+                arith,
+                walk-falls forth.0 s t (walk-inner member listed ends forth.0 s t in' forth.1),
+                walk-falls around.0 t s (walk-inner member listed ends around.0 t s in'' around.1),
+                counted s (ends.inside s in') (h.kept member listed ends s in'),
+                counted t (ends.inside t in'') (h.kept member listed ends t in''),
+              );
+        }
 
 -- parts keep end components under other names
 pub KeepsEnds-renamed : (q : Query) (replies : List (Option ℕ)) (part names class : List ℕ) → KeepsEnds q replies part
-    → IsNaming part part names class (states q) → KeepsEnds q replies class
-KeepsEnds-renamed q replies part names class h k = KeepsEnds-named q replies part h part names class
-    (λ s d t ls inner leads. omega (arith, inner.stays t leads)) k
+    → IsNaming part names class (states q) → KeepsEnds q replies class
+KeepsEnds-renamed q replies part names class h k =
+    let each = k.each.each in record {
+      many = k.each.many;
+      free = λ s ls some. h.free s ls (λ none. some ((each s ls).out none));
+      kept = λ member listed ends s in'. (each s (ends.inside s in')).given (h.kept member listed ends s in');
+      joined = λ member listed ends s t in' in''.
+          (each s (ends.inside s in')).named (h.kept member listed ends s in')
+          ∙ ap (slice_index names) (h.joined member listed ends s t in' in'')
+          ∙ sym ((each t (ends.inside t in'')).named (h.kept member listed ends t in''));
+    }
 
 -- each class is named after the least of its states
-pub IsRooted-named : (part component names class : List ℕ) (n : ℕ) → IsNaming part component names class n
-    → IsRooted class
-IsRooted-named part component names class n k = record {
+pub IsRooted-named : (part names class : List ℕ) (n : ℕ) → IsNaming part names class n → IsRooted class
+IsRooted-named part names class n k = record {
   root = λ s some.
-      let ls : s < n = omega (arith, within class s some, k.many) in
-      let named : slice_index class s ≡ slice_index names (slice_index component s) =
-      k.named s ls (λ none. some (k.out s ls none)) in
-      ap (λ x. slice_index class (x - 1)) named ∙ k.known (slice_index component s) (λ none. some (named ∙ none))
+      let is = k.each.each s (omega (arith, within class s some, k.each.many)) in
+      let named : slice_index class s ≡ slice_index names (slice_index part s) =
+      is.named (λ none. some (is.out none)) in
+      ap (λ x. slice_index class (x - 1)) named ∙ k.known (slice_index part s) (λ none. some (named ∙ none))
       ∙ sym named;
   least = λ s. elim (cases_lt s n) [
-    | inl below ↦ k.least s below
+    | inl below ↦ (k.each.each s below).least
     | inr past ↦
-        let e : slice_index class s ≤ s + 1 = omega (arith, get_or_past class s 0 (omega (arith, past, k.many))) in
+        let e : slice_index class s ≤ s + 1 =
+        omega (arith, get_or_past class s 0 (omega (arith, past, k.each.many))) in
         e
   ];
 }

@@ -6,10 +6,10 @@ pub mod Lowered
 pub mod Roots
 pub mod Listing
 pub mod Ending
-pub mod Opening
 pub mod Trapping
 pub mod Zeros
 pub mod Keeping
+pub mod Each
 pub mod Naming
 pub mod Leading
 pub mod Walking

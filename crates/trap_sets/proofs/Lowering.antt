@@ -72,8 +72,7 @@ module _ (q : Query) (upper of lowered : List ℕ) (replies : List (Option ℕ))
   entry-below s x entry = elim (cases_eq (slice_index of s) 0) [
     | inl none ↦ omega (arith, entry.other none)
     | inr some ↦
-        let at : (exit : ℕ) × IsBestExit q (slice_index upper) (numbered of (slice_index of s)) exit
-        × (x ≡ min (slice_index upper s) exit) = entry.trapped some in
+        let at = entry.trapped some in
         omega (arith, at.2, min-le_left (slice_index upper s) at.0)
   ]
 
@@ -90,8 +89,7 @@ module _ (q : Query) (upper of lowered : List ℕ) (replies : List (Option ℕ))
       let inside : t < states q = leads-inside q s c t posed ls lc leads in
       let here : slice_index of t ≢ 0 = λ none. some (sym same ∙ none) in
       let entry : IsLoweredEntry q of upper t (slice_index lowered t) = h.each t (omega (arith, inside, many)) in
-      let at : (exit : ℕ) × IsBestExit q (slice_index upper) (numbered of (slice_index of t)) exit
-      × (slice_index lowered t ≡ min (slice_index upper t) exit) = entry.trapped here in
+      let at = entry.trapped here in
       let exit : at.0 ≤ b =
       best-within q (slice_index upper) (numbered of (slice_index of s)) (numbered of (slice_index of s)) at.0 b
       (λ u d way. way) (subst (λ i. IsBestExit q (slice_index upper) (numbered of i) at.0) same at.1) best in
@@ -115,8 +113,7 @@ module _ (q : Query) (upper of lowered : List ℕ) (replies : List (Option ℕ))
       most-held q (slice_index lowered) s posed ls c lc (elim (cases_eq (slice_index of s) 0) [
         | inl none ↦ let same : value ≤ slice_index lowered s = omega (arith, old, entry.other none) in same
         | inr some ↦
-            let at : (exit : ℕ) × IsBestExit q (slice_index upper) (numbered of (slice_index of s)) exit
-            × (slice_index lowered s ≡ min (slice_index upper s) exit) = entry.trapped some in
+            let at = entry.trapped some in
             let least : value ≤ min (slice_index upper s) at.0 = le-min old (exits some at.0 at.1) in
             let good : value ≤ slice_index lowered s = omega (arith, at.2, least) in good
       ])

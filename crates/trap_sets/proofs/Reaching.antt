@@ -7,6 +7,7 @@ use Rattle.std.proofs.lemmas.List.{append-nil, append_assoc, length-set, get_or-
 use Rattle.std.proofs.lemmas.List.{get_or_default}
 use Rattle.game_model.proofs.Longer.{longer-at}
 use Rattle.attractors.specs.Growing.{IsOrder}
+use Rattle.attractors.proofs.Least.{member-inside}
 use Rattle.attractors.proofs.Ordering.{IsOrder-joins, stays-member}
 use Rattle.trap_sets.specs.declared.inner.Inner.{Inner}
 use Rattle.trap_sets.specs.declared.reach.Way.{Way}
@@ -16,11 +17,6 @@ use Rattle.trap_sets.specs.inside.Parts.{root_of}
 use Rattle.trap_sets.specs.inside.OfInner.{states_of, IsStepOf}
 use Rattle.trap_sets.specs.inside.Reaching.{Passes, IsMore, IsReaching, AreReached}
 use Rattle.trap_sets.proofs.Walking.{reach-join, reach-step, reach-self}
-
-member-inside : (marks : List Bool) (s : ℕ) → slice_index_or marks s false ≡ true → s < length marks
-member-inside [] s is = absurd (cc)
-member-inside (m ∷ marks) zero is = omega arith
-member-inside (m ∷ marks) (suc s) is = omega (arith, member-inside marks s is)
 
 -- no more states are marked
 pub IsMore-none : (P : ℕ → Type 0) (marks : List Bool) (order : List ℕ) → IsOrder marks order

@@ -1,6 +1,6 @@
 -- How many roots there are.
-use Rattle.std.proofs.Common.{◌≡◌, ◌≢◌, ℕ, zero, suc, ◌+◌, ◌<◌, ◌≤◌, Bool, List, true, false, length, arith, refl, ap, sym, subst}
-use Rattle.std.proofs.Common.{◌-◌, inl, inr}
+use Rattle.std.proofs.Common.{◌≡◌, ◌≢◌, ℕ, zero, suc, ◌+◌, ◌<◌, ◌≤◌, Bool, List, true, false, length, arith, refl, ap}
+use Rattle.std.proofs.Common.{sym, subst, ◌-◌, inl, inr}
 use Rattle.std.specs.Prelude.{slice_index}
 use Rattle.std.specs.Bool.{if◌then◌else◌}
 use Rattle.std.proofs.lemmas.Bool.{cases_eq, cases_lt, eq-eqb, ne_eqb}
@@ -63,8 +63,7 @@ unfolding roots_below
 root-of-number part zero k one most = absurd (omega (arith, one, most))
 root-of-number part (suc n) k one most = elim (cases_lt k (roots_below part n + 1)) [
   | inl below ↦
-      let found : (r : ℕ) × (r < n) × (slice_index part r ≡ r + 1) × (roots_below part (r + 1) ≡ k) =
-      root-of-number part n k one (omega (arith, below)) in
+      let found = root-of-number part n k one (omega (arith, below)) in
       (found.0, omega (arith, found.1), found.2, found.3)
   | inr above ↦ elim (cases_eq (slice_index part n) (n + 1)) [
     | inl root ↦

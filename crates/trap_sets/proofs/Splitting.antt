@@ -1,6 +1,6 @@
 -- Parts that are broken up.
-use Rattle.std.proofs.Common.{◌≡◌, ◌≢◌, ◌⊎◌, ℕ, ◌+◌, ◌-◌, ◌<◌, ◌≤◌, Bool, true, false, List, length, set, arith, refl, sym}
-use Rattle.std.proofs.Common.{◌∙◌, ap, subst, inl, inr, Option}
+use Rattle.std.proofs.Common.{◌≡◌, ◌≢◌, ◌⊎◌, ℕ, ◌+◌, ◌-◌, ◌<◌, ◌≤◌, Bool, true, false, List, length, set, arith, refl}
+use Rattle.std.proofs.Common.{sym, ◌∙◌, ap, subst, inl, inr, Option}
 use Rattle.std.specs.Prelude.{slice_index, slice_index_or}
 use Rattle.std.proofs.lemmas.Bool.{cases_eq, cases_lt, cases_Bool}
 use Rattle.std.proofs.lemmas.List.{get_or-set_same, get_or-set_other, length-set}
@@ -157,7 +157,7 @@ module _ (q : Query) (replies : List (Option ℕ)) (old : List ℕ) (marks : Lis
     | inr moved ↦ λ none. b.some (sym moved.0 ∙ none)
   ]
 
-  pub KeepsEnds-split : KeepsEnds q replies new
+  KeepsEnds-split : KeepsEnds q replies new
   KeepsEnds-split = record {
     many = k.many ∙ h.many;
     free = λ s ls some. h.free s ls (live s some);
@@ -203,7 +203,7 @@ module _ (q : Query) (replies : List (Option ℕ)) (old : List ℕ) (marks : Lis
         absurd (cc)
   ]
 
-  pub IsRooted-split : IsRooted new
+  IsRooted-split : IsRooted new
   IsRooted-split = record {
     root = λ s some. elim (at-state s) [
       | inl stays ↦
@@ -224,9 +224,12 @@ module _ (q : Query) (replies : List (Option ℕ)) (old : List ℕ) (marks : Lis
   }
 
   -- a root stays one, and the state becomes one
-  pub roots-split : roots old < roots new
+  roots-split : roots old < roots new
   roots-split = subst (λ n. roots old < roots_below new n) (sym k.many) (roots-more old new (λ s root.
       let some : slice_index old s ≢ 0 = λ none. absurd (omega (arith, root, none)) in
       let at : root_of old s ≡ s = omega (arith, root) in
       sym (ap (slice_index new) at) ∙ root-stays s some ∙ root) (length old) state (omega (arith, b.inside, h.many))
       (k.moved state (omega (arith, b.inside, h.many, all)) refl b.apart) (λ is. unnamed state is))
+
+  pub split-all : KeepsEnds q replies new × IsRooted new × (roots old < roots new)
+  split-all = (KeepsEnds-split, IsRooted-split, roots-split)

@@ -6,4 +6,5 @@ pub mod OfCut
 pub mod OfInner
 pub mod Reaching
 pub mod Naming
+pub mod Each
 pub mod Roots

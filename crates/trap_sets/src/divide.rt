@@ -11,28 +11,13 @@ use crate::inner::Inner;
 use game_outside::OutOfMemory;
 use std::alloc::Global;
 
-/// Divides these parts into the components of their inner choices. Each component is named after its first state that
-/// has a part.
+/// Divides these parts into the components of their inner choices.
 pub fn divided(alloc: Global, cut: &Cut<'_>, part: &[u32]) -> Result<Vec<u32>, OutOfMemory>
-    requires keeps { KeepsEndsOf cut.now part.now }
-    ensures keeps { IfOk result (λ class. KeepsEndsOf cut.now class.items) }
-    ensures rooted { IfOk result (λ class. IsRooted class.items) }
+    requires { KeepsEndsOf cut.now part.now }
+    ensures { IfOk result (λ class. KeepsEndsOf cut.now class.items) }
 {
     let inner = Inner::of_parts(alloc, cut, part)?;
-    let class = classes(alloc, &inner)?;
-    Ok(class)
-}
-
-/// Names the components of these inner choices.
-fn classes(alloc: Global, inner: &Inner<'_>) -> Result<Vec<u32>, OutOfMemory>
-    requires keeps { KeepsEndsOf inner.now.cut inner.now.part.now }
-    ensures keeps { IfOk result (λ class. KeepsEndsOf inner.now.cut class.items) }
-    ensures rooted { IfOk result (λ class. IsRooted class.items) }
-{
-    let component = inner.components(alloc)?;
-    let mut names = vec![in alloc; 0u32; component.len()]?;
-    let mut class = Vec::new(alloc);
-    name_all(&component, inner.part, &mut names, &mut class)?;
+    let class = inner.divided(alloc)?;
     Ok(class)
 }
 
@@ -46,7 +31,7 @@ pub fn renamed(alloc: Global, cut: &Cut<'_>, part: &[u32]) -> Result<Vec<u32>, O
     let greatest = greatest_of(part);
     let mut names = vec![in alloc; 0u32; greatest as usize + 1]?;
     let mut class = Vec::new(alloc);
-    name_all(part, part, &mut names, &mut class)?;
+    name_all(part, &mut names, &mut class)?;
     Ok(class)
 }
 
@@ -54,47 +39,35 @@ pub fn renamed(alloc: Global, cut: &Cut<'_>, part: &[u32]) -> Result<Vec<u32>, O
 fn greatest_of(part: &[u32]) -> u32
     ensures { (s : ℕ) → s < length part.now → slice_index part.now s ≤ result }
 {
-    let mut greatest: u32 = 0;
-    for place in 0..part.len() {
-        greatest = greatest.max(part[place]);
-    }
-    greatest
+    part.iter().copied().max().unwrap_or(0)
 }
 
-/// Gives each state that has a part the name of its component.
-fn name_all(
-    component: &[u32],
-    part: &[u32],
-    names: &mut [u32],
-    class: &mut Vec<u32>,
-) -> Result<(), OutOfMemory>
-    requires many { length component.now ≡ length part.now }
+/// Gives each state that has a part the name of its part.
+fn name_all(part: &[u32], names: &mut [u32], class: &mut Vec<u32>) -> Result<(), OutOfMemory>
     requires few { length part.now ≤ most_states }
-    requires room { (s : ℕ) → s < length part.now → slice_index component.now s < length names.old }
-    requires naming { IsNaming part.now component.now names.old class.old.items 0 }
-    ensures { OnOk result (IsNaming part.now component.now names.new class.new.items (length part.now)) }
+    requires room { (s : ℕ) → s < length part.now → slice_index part.now s < length names.old }
+    requires naming { IsNaming part.now names.old class.old.items 0 }
+    ensures { OnOk result (IsNaming part.now names.new class.new.items (length part.now)) }
 {
     for place in 0..part.len() {
-        class.push(name_of(component, part, place as u32, names))?;
+        class.push(name_of(part, place as u32, names))?;
     }
     Ok(())
 }
 
-/// Returns the name of a state's component: one more than its first state that has a part. A state without a part has
-/// no name.
-fn name_of(component: &[u32], part: &[u32], state: u32, names: &mut [u32]) -> u32
-    requires many { length component.now ≡ length part.now }
+/// Returns the name of a state's part: one more than its first state. A state without a part has no name.
+fn name_of(part: &[u32], state: u32, names: &mut [u32]) -> u32
     requires state { state < length part.now }
     requires few { length part.now ≤ most_states }
-    requires room { slice_index component.now state < length names.old }
-    ensures naming { (class : List ℕ) → IsNaming part.now component.now names.old class state
-        → IsNaming part.now component.now names.new (class ++ result ∷ []) (state + 1) }
+    requires room { slice_index part.now state < length names.old }
+    ensures naming { (class : List ℕ) → IsNaming part.now names.old class state
+        → IsNaming part.now names.new (class ++ result ∷ []) (state + 1) }
     ensures room { length names.new ≡ length names.old }
 {
-    if part[state as usize] == 0 {
+    let own = part[state as usize] as usize;
+    if own == 0 {
         return 0;
     }
-    let own = component[state as usize] as usize;
     if names[own] == 0 {
         names[own] = state + 1;
         return state + 1;

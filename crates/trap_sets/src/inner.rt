@@ -1,11 +1,13 @@
-//! This module finds the inner choices of given parts, once.
+//! This module finds the inner choices of given parts, once, and divides the parts into components over them.
 
 ghost use Rattle.std.specs.Prelude.{◌≡◌, ◌<◌, length};
 ghost use Rattle.game_model.specs.Game.{choices_of};
+ghost use Rattle.game_model.specs.Limits.{most_states};
 ghost use Rattle.game_model.specs.Query.{states};
 ghost use Rattle.predecessors.specs.Flags.{AreFlags};
 ghost use Rattle.trap_sets.specs.inside.Parts.{IsInner};
 ghost use Rattle.trap_sets.specs.inside.OfCut.{states_in};
+ghost use Rattle.trap_sets.specs.inside.Naming.{IsClass};
 
 use crate::cut::Cut;
 use components::component_numbers;
@@ -26,7 +28,8 @@ pub struct Inner<'a> {
 
 impl<'a> Inner<'a> {
     ghost use Rattle.std.specs.Prelude.{ℕ, ◌≤◌, ◌↔◌, IsTrue, IfOk, slice_index};
-    ghost use Rattle.trap_sets.specs.inside.OfInner.{states_of, LeadsOf, IsInnerOf};
+    ghost use Rattle.trap_sets.specs.inside.OfCut.{KeepsEndsOf};
+    ghost use Rattle.trap_sets.specs.inside.OfInner.{states_of, IsInnerOf};
 
     /// Finds the inner choices of these parts. Each choice is tested once.
     pub fn of_parts(alloc: Global, cut: &Cut<'a>, part: &'a [u32]) -> Result<Inner<'a>, OutOfMemory>
@@ -44,15 +47,17 @@ impl<'a> Inner<'a> {
         })
     }
 
-    /// Gives each state the number of its component over the inner choices.
-    pub fn components(&self, alloc: Global) -> Result<Vec<u32>, OutOfMemory>
-        ensures many { IfOk result (λ l. length l.items ≡ states_of self.now) }
-        ensures below { IfOk result (λ l. (s : ℕ) → s < states_of self.now
-            → slice_index l.items s < states_of self.now) }
-        ensures order { IfOk result (λ l. (s d t : ℕ) → s < states_of self.now → IsInnerOf self.now s d
-            → LeadsOf self.now s d t → slice_index l.items t ≤ slice_index l.items s) }
+    /// Gives each state with a part the number of its component over the inner choices, counted from 1.
+    pub fn divided(&self, alloc: Global) -> Result<Vec<u32>, OutOfMemory>
+        requires { KeepsEndsOf self.now.cut self.now.part.now }
+        ensures { IfOk result (λ class. KeepsEndsOf self.now.cut class.items) }
     {
-        component_numbers(alloc, self.cut.question, &self.flags)
+        let component = component_numbers(alloc, self.cut.question, &self.flags)?;
+        let mut class = Vec::with_capacity(alloc, component.len())?;
+        for place in 0..self.part.len() {
+            class.push(class_of(self.part[place], component[place]))?;
+        }
+        Ok(class)
     }
 
     /// Returns whether a choice is inner.
@@ -63,4 +68,15 @@ impl<'a> Inner<'a> {
     {
         self.flags.has(self.cut.question.game(), state, choice)
     }
+}
+
+/// Counts a component from 1 for a state with a part. A state without a part is in none.
+fn class_of(own: u32, component: u32) -> u32
+    requires { component < most_states }
+    ensures { IsClass own component result }
+{
+    if own == 0 {
+        return 0;
+    }
+    component + 1
 }

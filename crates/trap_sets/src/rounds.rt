@@ -1,10 +1,10 @@
 //! This module divides the states into end components, in rounds.
 
-ghost use Rattle.std.specs.Prelude.{◌≡◌, ◌<◌, ◌↔◌, length, IsTrue, IfOk, OnOk};
+ghost use Rattle.std.specs.Prelude.{◌≡◌, ◌<◌, length, IfOk, OnOk};
 ghost use Rattle.game_model.specs.Query.{states};
-ghost use Rattle.fixed_bellman.specs.Given.{IsFree};
 ghost use Rattle.trap_sets.specs.inside.OfCut.{states_in, KeepsEndsOf, AreJoinedIn, AreSettledOf, IsKeptIn};
 ghost use Rattle.trap_sets.specs.inside.Parts.{IsRooted};
+ghost use Rattle.trap_sets.specs.inside.Settled.{IsOpening};
 
 use crate::breaking::break_up;
 use crate::cut::Cut;
@@ -85,22 +85,18 @@ fn opening(alloc: Global, cut: &Cut<'_>) -> Result<Vec<u32>, OutOfMemory>
 {
     let mut part = Vec::new(alloc);
     for state in 0..cut.question.game().states() {
-        if is_free(cut.question, state) {
-            part.push(1)?;
-        } else {
-            part.push(0)?;
-        }
+        part.push(opening_part(cut.question, state))?;
     }
     Ok(part)
 }
 
-/// Returns whether a state is neither goal nor dead.
-fn is_free(question: &Question, state: u32) -> bool
+/// Returns 1 for a state that is neither goal nor dead, and 0 for any other state.
+fn opening_part(question: &Question, state: u32) -> u32
     requires { state < states question.now }
-    ensures { IsTrue result ↔ IsFree question.now state }
+    ensures { IsOpening question.now state result }
 {
     if question.is_goal(state) || question.is_dead(state) {
-        return false;
+        return 0;
     }
-    true
+    1
 }

@@ -1,12 +1,21 @@
--- The components of states with a part are named after the first of these states.
-use Rattle.std.specs.Prelude.{◌≡◌, ◌≢◌, ℕ, ◌+◌, ◌-◌, ◌<◌, ◌≤◌, List, length, slice_index}
+-- Parts are divided into components, and named after their first states.
+use Rattle.std.specs.Prelude.{◌≡◌, ◌≢◌, ℕ, ◌+◌, ◌-◌, ◌≤◌, List, slice_index}
+use Rattle.trap_sets.specs.inside.Each.{IsEach}
 
--- Each of the first states that has a part is in the class of its component, which is named after one of them.
-pub record IsNaming (part component names class : List ℕ) (n : ℕ) : Type 0 where
-  pub many : length class ≡ n
-  pub out : (s : ℕ) → s < n → slice_index part s ≡ 0 → slice_index class s ≡ 0
-  pub named : (s : ℕ) → s < n → slice_index part s ≢ 0
-      → slice_index class s ≡ slice_index names (slice_index component s)
-  pub least : (s : ℕ) → s < n → slice_index class s ≤ s + 1
-  pub given : (s : ℕ) → s < n → slice_index part s ≢ 0 → slice_index class s ≢ 0
+-- A state with a part has the number of its component, counted from 1, and any other state has none.
+pub record IsClass (own component class : ℕ) : Type 0 where
+  pub out : own ≡ 0 → class ≡ 0
+  pub counted : own ≢ 0 → class ≡ component + 1
+
+-- A state with a part has the name of its part, which is named after this state or an earlier one. Any other state has
+-- no name.
+pub record IsNamed (part names : List ℕ) (s name : ℕ) : Type 0 where
+  pub out : slice_index part s ≡ 0 → name ≡ 0
+  pub named : slice_index part s ≢ 0 → name ≡ slice_index names (slice_index part s)
+  pub least : name ≤ s + 1
+  pub given : slice_index part s ≢ 0 → name ≢ 0
+
+-- Each of the first states has its name, and each part with a name is named after one of them.
+pub record IsNaming (part names class : List ℕ) (n : ℕ) : Type 0 where
+  pub each : IsEach (IsNamed part names) class n
   pub known : (p : ℕ) → slice_index names p ≢ 0 → slice_index class (slice_index names p - 1) ≡ slice_index names p

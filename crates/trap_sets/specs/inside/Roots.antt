@@ -1,5 +1,6 @@
 -- This module defines the roots of parts, and the numbers of the parts.
-use Rattle.std.specs.Prelude.{◌≡◌, ℕ, zero, suc, ◌+◌, ◌<◌, ◌==◌, List, length, slice_index, if◌then◌else◌}
+use Rattle.std.specs.Prelude.{◌≡◌, ℕ, zero, suc, ◌+◌, ◌==◌, List, length, slice_index, if◌then◌else◌}
+use Rattle.trap_sets.specs.inside.Each.{IsEach}
 
 -- This many of the first states are roots.
 unfoldable pub roots_below : List ℕ → ℕ → ℕ
@@ -15,6 +16,5 @@ abbrev pub number : List ℕ → ℕ → ℕ
 number part s = roots_below part (slice_index part s)
 
 -- Each of the first states has the number of its part.
-pub record AreNumbers (part of : List ℕ) (n : ℕ) : Type 0 where
-  pub many : length of ≡ n
-  pub each : (s : ℕ) → s < n → slice_index of s ≡ number part s
+abbrev pub AreNumbers : List ℕ → List ℕ → ℕ → Type 0
+AreNumbers part of n = IsEach (λ s own. own ≡ number part s) of n

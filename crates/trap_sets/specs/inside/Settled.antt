@@ -34,3 +34,8 @@ pub record AreSettled (q : Query) (replies : List (Option ℕ)) (part : List ℕ
 abbrev pub IsKept : Query → List (Option ℕ) → List ℕ → ℕ → ℕ → Type 0
 IsKept q replies part s own = ((own ≡ 0) × ((c : ℕ) → ¬ IsInner q replies part s c))
     ⊎ ((own ≡ slice_index part s) × ((c : ℕ) × IsInner q replies part s c))
+
+-- A state has part 1 if it is neither goal nor dead, and else none.
+pub record IsOpening (q : Query) (s own : ℕ) : Type 0 where
+  pub free : own ≢ 0 → IsFree q s
+  pub all : IsFree q s → own ≡ 1

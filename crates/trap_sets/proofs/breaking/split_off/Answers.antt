@@ -1,7 +1,7 @@
 use Rattle.std.proofs.Common.{◌≡◌, ◌+◌, ℕ, true, false, List, arith, refl, sym, ◌∙◌, subst}
 use Rattle.std.specs.Prelude.{slice_index, slice_index_or}
 use Rattle.trap_sets.specs.inside.Breaking.{IsSplit}
-use Rattle.trap_sets.proofs.Splitting.{IsSplit-stays, IsSplit-moves, KeepsEnds-split, IsRooted-split, roots-split}
+use Rattle.trap_sets.proofs.Splitting.{IsSplit-stays, IsSplit-moves, split-all}
 use Rattle.trap_sets.proofs.breaking.split_off.Goals as goal
 use Rattle.trap_sets.proofs.breaking.split_off.Goals.{then-part-place+then-not-marks-place, else-part-place}
 use Rattle.trap_sets.proofs.breaking.split_off.Goals.{else-part-place-via-then-part-place+else-not-marks-place}
@@ -34,20 +34,9 @@ loop-place-preserved c =
       ];
     }
 
-pub returns-clause-keeps : goal.returns-clause-keeps
-returns-clause-keeps c = KeepsEnds-split c.args.cut.now.question.now c.args.cut.now.replies.now c.args.part.now
-    c.args.marks.now c.args.state c.loop-place.place c.loop-place.part c.requires.keeps c.requires.rooted
-    c.requires.breaks (omega (arith, c.loop-place-test.false, c.loop-place.invariant.split.many))
-    c.loop-place.invariant.split
-
-pub returns-clause-rooted : goal.returns-clause-rooted
-returns-clause-rooted c = IsRooted-split c.args.cut.now.question.now c.args.cut.now.replies.now c.args.part.now
-    c.args.marks.now c.args.state c.loop-place.place c.loop-place.part c.requires.keeps c.requires.rooted
-    c.requires.breaks (omega (arith, c.loop-place-test.false, c.loop-place.invariant.split.many))
-    c.loop-place.invariant.split
-
-pub returns-clause-more : goal.returns-clause-more
-returns-clause-more c = roots-split c.args.cut.now.question.now c.args.cut.now.replies.now c.args.part.now
-    c.args.marks.now c.args.state c.loop-place.place c.loop-place.part c.requires.keeps c.requires.rooted
-    c.requires.breaks (omega (arith, c.loop-place-test.false, c.loop-place.invariant.split.many))
-    c.loop-place.invariant.split
+pub returns : goal.returns
+returns c =
+    let split = split-all c.args.cut.now.question.now c.args.cut.now.replies.now c.args.part.now c.args.marks.now
+    c.args.state c.loop-place.place c.loop-place.part c.requires.keeps c.requires.rooted c.requires.breaks
+    (omega (arith, c.loop-place-test.false, c.loop-place.invariant.split.many)) c.loop-place.invariant.split in
+    record { keeps = split.0; rooted = split.1; more = split.2 }

@@ -3,6 +3,6 @@ use Rattle.trap_sets.specs.declared.cut.Cut.{Cut}
 use Rattle.trap_sets.specs.inside.OfCut.{KeepsEndsOf}
 use Rattle.trap_sets.proofs.divide.divided.Goals as goal
 
-pub returns-clause-keeps : goal.returns-clause-keeps
-returns-clause-keeps c = subst (λ (cut : Cut). KeepsEndsOf cut c.in_ok-class.class.items) c.in_ok-inner.ensures.cut
-    c.in_ok-class.ensures.keeps
+pub returns : goal.returns
+returns c = subst (λ (cut : Cut). KeepsEndsOf cut c.in_ok-class.class.items) c.in_ok-inner.ensures.cut
+    c.in_ok-class.ensures

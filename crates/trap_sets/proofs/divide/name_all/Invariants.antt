@@ -4,6 +4,6 @@ use Rattle.trap_sets.proofs.divide.name_all.Given as goal
 
 abbrev pub invariant-loop-place : goal.invariant-loop-place
 invariant-loop-place l = record {
-  naming : IsNaming l.part l.component l.names l.class.items l.place;
+  naming : IsNaming l.part l.names l.class.items l.place;
   room : length l.names ≡ length l.fn.names;
 }

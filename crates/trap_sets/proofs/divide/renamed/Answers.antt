@@ -11,18 +11,18 @@ name_all-requires-clause-naming c =
     let n : ℕ = c.greatest_of-greatest.result + 1 in
     let zeros : c.in_ok-names.names.items ≡ replicate n 0 = search rules in
     let names : c.deref_mut.result.now ≡ replicate n 0 = c.deref_mut.ensures.value ∙ zeros in
-    subst (λ (xs : List ℕ). IsNaming part part xs c.new-class.result.items 0) (sym names)
-    (subst (λ (ys : List ℕ). IsNaming part part (replicate n 0) ys 0) (sym c.new-class.ensures.items)
-    (IsNaming-none part part (replicate n 0) (zero-at n)))
+    subst (λ (xs : List ℕ). IsNaming part xs c.new-class.result.items 0) (sym names)
+    (subst (λ (ys : List ℕ). IsNaming part (replicate n 0) ys 0) (sym c.new-class.ensures.items)
+    (IsNaming-none part (replicate n 0) (zero-at n)))
 
 pub returns-clause-keeps : goal.returns-clause-keeps
 returns-clause-keeps c =
     let cut = c.args.cut.now in
     let part = c.args.part.now in
     KeepsEnds-renamed cut.question.now cut.replies.now part c.name_all.new.names c.name_all.new.class.items
-    c.requires.keeps (subst (IsNaming part part c.name_all.new.names c.name_all.new.class.items)
+    c.requires.keeps (subst (IsNaming part c.name_all.new.names c.name_all.new.class.items)
     c.requires.keeps.many c.in_ok-name_all.ensures)
 
 pub returns-clause-rooted : goal.returns-clause-rooted
-returns-clause-rooted c = IsRooted-named c.args.part.now c.args.part.now c.name_all.new.names
+returns-clause-rooted c = IsRooted-named c.args.part.now c.name_all.new.names
     c.name_all.new.class.items (length c.args.part.now) c.in_ok-name_all.ensures

@@ -1,22 +1,27 @@
-use Rattle.std.proofs.Common.{◌≢◌, ℕ, ◌+◌, List, arith, refl, sym, ◌∙◌, ap, subst}
-use Rattle.std.proofs.lemmas.Bool.{both_ways}
-use Rattle.trap_sets.proofs.Opening.{IsOpening, IsOpening-more}
+use Rattle.std.proofs.Common.{◌≡◌, length, arith, ap, sym, ◌∙◌}
+use Rattle.game_model.specs.Query.{states}
+use Rattle.trap_sets.proofs.Each.{IsEach-none, IsEach-push}
 use Rattle.trap_sets.proofs.rounds.opening.Goals as goal
-use Rattle.trap_sets.proofs.rounds.opening.Goals.{then-is_free+in_ok-push, else-is_free+in_ok-push-2}
+
+pub loop-state-init : goal.loop-state-init
+loop-state-init c = IsEach-none _ _ c.new-part.ensures.items
 
 pub loop-state-preserved : goal.loop-state-preserved
-loop-state-preserved c =
-    let q = c.args.cut.now.question.now in
-    let n : ℕ = c.loop-state.state in
-    let one : 1 ≢ 0 = λ e. absurd (omega (arith, e)) in
-    elim c.if-is_free.branch [
-      | then-is_free+in_ok-push w ↦ subst (λ (ys : List ℕ). IsOpening q ys (n + 1))
-          (sym (ap (λ v. v.items) w.part-is ∙ w.in_ok-push.ensures.items))
-          (IsOpening-more q c.loop-state.part.items n 1 c.loop-state.invariant
-          (λ given. c.is_free.ensures.0 w.if-is_free.true) (λ given. one) (λ given. refl))
-      | else-is_free+in_ok-push-2 w ↦ subst (λ (ys : List ℕ). IsOpening q ys (n + 1))
-          (sym (ap (λ v. v.items) w.part-is ∙ w.in_ok-push-2.ensures.items))
-          (IsOpening-more q c.loop-state.part.items n 0 c.loop-state.invariant (λ given. absurd (given refl))
-          (λ given. absurd (both_ways c.is_free.result w.if-is_free.false (c.is_free.ensures.1 given)))
-          (λ given. absurd (given refl)))
-    ]
+loop-state-preserved c = IsEach-push _ _ _ c.opening_part.result c.loop-state.state c.in_ok-push.ensures.items
+    c.loop-state.invariant c.opening_part.ensures
+
+pub returns : goal.returns
+returns c =
+    let h = c.loop-state.invariant in
+    let all : c.loop-state.state ≡ states c.args.cut.now.question.now =
+    omega (arith, c.loop-state-test.false, c.states-state-end.ensures, ap length c.game.ensures) in record {
+      many = h.many ∙ all;
+      free = λ s ls. (h.each s (omega (arith, ls, all))).free;
+      kept = λ set listed ends s is none. absurd (omega (
+        arith,
+        (h.each s (omega (arith, ends.inside s is, all))).all (ends.free s is),
+        none,
+      ));
+      joined = λ set listed ends s t is is'. (h.each s (omega (arith, ends.inside s is, all))).all (ends.free s is)
+          ∙ sym ((h.each t (omega (arith, ends.inside t is', all))).all (ends.free t is'));
+    }

@@ -1,7 +1,6 @@
 use Rattle.std.proofs.Common.{◌≡◌, ℕ, arith, sym, ap, ◌∙◌, subst, inl, inr, true, false}
 use Rattle.std.specs.Prelude.{slice_index, slice_index_or}
 use Rattle.std.proofs.lemmas.Bool.{cases_eq}
-use Rattle.game_model.specs.Game.{destinations, choice_of}
 use Rattle.trap_sets.specs.inside.OfInner.{IsStepOf, LeadsOf}
 use Rattle.trap_sets.proofs.Leading.{listed-leads, leads-listed, leads-inside}
 use Rattle.trap_sets.proofs.Reaching.{IsMore-weaker, IsMore-join}
@@ -13,11 +12,9 @@ add-requires-clause-state c =
     let q = inner.cut.question.now in
     let s = c.args.step.state in
     let d = c.args.step.choice in
-    let to : c.successors-to-items.result.now ≡ destinations (choice_of q.game s d).edges =
-    c.successors-to-items.ensures ∙ ap (λ g. destinations (choice_of g s d).edges) c.game.ensures in
     let t : ℕ = slice_index c.successors-to-items.result.now c.loop-to.to-index in
     let leads : LeadsOf inner s d t =
-    listed-leads q s d c.loop-to.to-index c.successors-to-items.result.now to c.loop-to-test.true in
+    listed-leads q s d c.loop-to.to-index _ _ c.successors-to-items.ensures c.game.ensures c.loop-to-test.true in
     omega (
       arith,
       leads-inside q s d t inner.cut.posed c.requires.state c.requires.choice leads,
@@ -31,21 +28,17 @@ loop-to-preserved c =
     let q = inner.cut.question.now in
     let s = c.args.step.state in
     let d = c.args.step.choice in
-    let to : c.successors-to-items.result.now ≡ destinations (choice_of q.game s d).edges =
-    c.successors-to-items.ensures ∙ ap (λ g. destinations (choice_of g s d).edges) c.game.ensures in
     let t : ℕ = slice_index c.successors-to-items.result.now c.loop-to.to-index in
     let step : IsStepOf inner s t = record {
       choice = d;
       state = c.requires.state;
       inner = c.has.ensures.0 c.if-not-has.false;
-      leads = listed-leads q s d c.loop-to.to-index c.successors-to-items.result.now to c.loop-to-test.true;
+      leads = listed-leads q s d c.loop-to.to-index _ _ c.successors-to-items.ensures c.game.ensures
+          c.loop-to-test.true;
     } in
     record {
-      more = IsMore-join (IsStepOf inner s) c.args.self.now.marks.items c.args.self.now.order.items
-          c.loop-to.self.marks.items c.loop-to.self.order.items c.add.new.self.marks.items c.add.new.self.order.items
-          c.loop-to.invariant.more (IsMore-weaker (λ u. u ≡ t) (IsStepOf inner s) c.loop-to.self.marks.items
-          c.loop-to.self.order.items c.add.new.self.marks.items c.add.new.self.order.items
-          (λ u same. subst (IsStepOf inner s) (sym same) step) c.in_ok-add.ensures.more);
+      more = IsMore-join (IsStepOf inner s) _ _ _ _ _ _ c.loop-to.invariant.more (IsMore-weaker (λ u. u ≡ t)
+          (IsStepOf inner s) _ _ _ _ (λ u same. subst (IsStepOf inner s) (sym same) step) c.in_ok-add.ensures.more);
       met = λ k below. elim (cases_eq k c.loop-to.to-index) [
         | inl same ↦ ap (λ j. slice_index_or c.add.new.self.marks.items
             (slice_index c.successors-to-items.result.now j) false) same ∙ c.in_ok-add.ensures.added
@@ -59,8 +52,6 @@ returns-clause-passed c = λ holds t leads.
     let q = c.args.inner.now.cut.question.now in
     let s = c.args.step.state in
     let d = c.args.step.choice in
-    let to : c.successors-to-items.result.now ≡ destinations (choice_of q.game s d).edges =
-    c.successors-to-items.ensures ∙ ap (λ g. destinations (choice_of g s d).edges) c.game.ensures in
-    let at = leads-listed q s d t c.successors-to-items.result.now to leads in
+    let at = leads-listed q s d t _ _ c.successors-to-items.ensures c.game.ensures leads in
     subst (λ u. slice_index_or c.loop-to.self.marks.items u false ≡ true) at.2
     (c.loop-to.invariant.met at.0 (omega (arith, at.1, c.loop-to-test.false)))

@@ -31,12 +31,9 @@ loop-step-preserved c =
     let Met : List Bool → Move → Type 0 =
     λ marks x. IsInnerOf inner x.state x.choice → slice_index_or marks x.state false ≡ true in
     record {
-      more = IsMore-join (λ s. IsStepOf inner s state) c.args.self.now.marks.items c.args.self.now.order.items
-          c.loop-step.self.marks.items c.loop-step.self.order.items c.meet.new.self.marks.items
-          c.meet.new.self.order.items c.loop-step.invariant.more
+      more = IsMore-join (λ s. IsStepOf inner s state) _ _ _ _ _ _ c.loop-step.invariant.more
           (IsMore-weaker (λ s. (s ≡ m.state) × IsInnerOf inner m.state m.choice) (λ s. IsStepOf inner s state)
-          c.loop-step.self.marks.items c.loop-step.self.order.items c.meet.new.self.marks.items
-          c.meet.new.self.order.items (λ s here. subst (λ u. IsStepOf inner u state) (sym here.0) (record {
+          _ _ _ _ (λ s here. subst (λ u. IsStepOf inner u state) (sym here.0) (record {
             choice = m.choice;
             state = leads.state;
             inner = here.1;

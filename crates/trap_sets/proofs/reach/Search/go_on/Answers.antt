@@ -1,7 +1,7 @@
 use Rattle.std.proofs.Common.{length, arith, ap, subst, inl, inr}
 use Rattle.std.proofs.lemmas.Bool.{cases_eq}
 use Rattle.game_model.specs.Game.{choices_of}
-use Rattle.trap_sets.specs.inside.OfInner.{IsStepOf, IsInnerOf, LeadsOf}
+use Rattle.trap_sets.specs.inside.OfInner.{IsInnerOf, LeadsOf}
 use Rattle.trap_sets.proofs.Reaching.{IsMore-join}
 use Rattle.trap_sets.proofs.reach.Search.go_on.Goals as goal
 
@@ -9,9 +9,7 @@ pub loop-choice-preserved : goal.loop-choice-preserved
 loop-choice-preserved c =
     let inner = c.args.inner.now in
     record {
-      more = IsMore-join (IsStepOf inner c.args.state) c.args.self.now.marks.items c.args.self.now.order.items
-          c.loop-choice.self.marks.items c.loop-choice.self.order.items c.follow.new.self.marks.items
-          c.follow.new.self.order.items c.loop-choice.invariant.more c.in_ok-follow.ensures.more;
+      more = IsMore-join _ _ _ _ _ _ _ c.loop-choice.invariant.more c.in_ok-follow.ensures.more;
       met = λ d t below holds leads. elim (cases_eq d c.loop-choice.choice) [
         | inl same ↦ c.in_ok-follow.ensures.passed (subst (IsInnerOf inner c.args.state) same holds) t
             (subst (λ e. LeadsOf inner c.args.state e t) same leads)
