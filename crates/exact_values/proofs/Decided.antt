@@ -1,7 +1,8 @@
 -- Facts that hold or don't, and how many numbers have one.
 use Rattle.std.proofs.Common.{◌≡◌, ℕ, zero, suc, ◌<◌, ◌≤◌, Bool, true, false, List, [], ◌∷◌, arith, refl, subst, inl}
 use Rattle.std.proofs.Common.{inr, ◌⊎◌}
-use Rattle.std.specs.List.{AllByRecursion}
+use Rattle.std.specs.List.{All}
+use Rattle.std.proofs.lemmas.List.Elements.{All-nil, All-cons, All-head, All-tail}
 use Rattle.std.proofs.lemmas.Bool.{cases_lt, cases_eq}
 use Rattle.exact_values.proofs.Arena.{Some}
 
@@ -18,26 +19,27 @@ dec-some P d (x ∷ xs) = elim (d x) [
   ]
 ]
 
-pub dec-all : {X : Type 0} (P : X → Type 0) → ((x : X) → Decided (P x)) → (xs : List X) → Decided (AllByRecursion P xs)
-dec-all P d [] = inl tt
+pub dec-all : {X : Type 0} (P : X → Type 0) → ((x : X) → Decided (P x)) → (xs : List X) → Decided (All P xs)
+dec-all P d [] = inl (All-nil P)
 dec-all P d (x ∷ xs) = elim (d x) [
-  | inr hasnt ↦ inr (λ h. hasnt h.0)
+  | inr hasnt ↦ inr (λ h. hasnt (All-head P x xs h))
   | inl here ↦ elim (dec-all P d xs) [
-    | inl later ↦ inl (here, later)
-    | inr none ↦ inr (λ h. none h.1)
+    | inl later ↦ inl (All-cons P x xs here later)
+    | inr none ↦ inr (λ h. none (All-tail P x xs h))
   ]
 ]
 
-pub none-all : {X : Type 0} (P : X → Type 0) (xs : List X) → (Some P xs → ⊥) → AllByRecursion (λ x. P x → ⊥) xs
-none-all P [] h = tt
-none-all P (x ∷ xs) h = (λ here. h (inl here), none-all P xs (λ later. h (inr later)))
+pub none-all : {X : Type 0} (P : X → Type 0) (xs : List X) → (Some P xs → ⊥) → All (λ x. P x → ⊥) xs
+none-all P [] h = All-nil (λ x. P x → ⊥)
+none-all P (x ∷ xs) h =
+    All-cons (λ x. P x → ⊥) x xs (λ here. h (inl here)) (none-all P xs (λ later. h (inr later)))
 
-pub not-all : {X : Type 0} (P : X → Type 0) → ((x : X) → Decided (P x)) → (xs : List X) → (AllByRecursion P xs → ⊥)
+pub not-all : {X : Type 0} (P : X → Type 0) → ((x : X) → Decided (P x)) → (xs : List X) → (All P xs → ⊥)
     → Some (λ x. P x → ⊥) xs
-not-all P d [] h = absurd (h tt)
+not-all P d [] h = absurd (h (All-nil P))
 not-all P d (x ∷ xs) h = elim (d x) [
   | inr hasnt ↦ inl hasnt
-  | inl here ↦ inr (not-all P d xs (λ later. h (here, later)))
+  | inl here ↦ inr (not-all P d xs (λ later. h (All-cons P x xs here later)))
 ]
 
 pub dec-both : (A B : Type 0) → Decided A → Decided B → Decided (A × B)

@@ -8,3 +8,5 @@ pub mod Stopping
 pub mod Ending
 pub mod Next
 pub mod Avoiding
+pub mod Posed
+pub mod Lingering
