@@ -1,6 +1,8 @@
 -- Tables that solve the equations of a question where each state has these choices, their ranks, and traps.
-use Rattle.std.proofs.Common.{◌≡◌, ℕ, suc, ◌<◌, ◌≤◌, false, true, List, [], ◌∷◌, length, get_or, arith, inl, inr, ◌⊎◌}
+use Rattle.std.proofs.Common.{◌≡◌, ℕ, suc, ◌<◌, ◌≤◌, false, true, List, [], ◌∷◌, length, get_or, arith}
+use Rattle.std.proofs.Common.{refl, inl, inr, ◌⊎◌}
 use Rattle.std.specs.List.{All}
+use Rattle.std.proofs.lemmas.Bool.{cases_eq}
 use Rattle.std.proofs.lemmas.List.Elements.{All-nil, All-cons, All-head, All-tail}
 use Rattle.game_model.specs.declared.game.Side.{Side}
 use Rattle.game_model.specs.declared.game.Side.TheVariants.{Max, Min}
@@ -88,3 +90,21 @@ CaughtAt Min X v s ms = Some (Stays X v s) ms
 pub record Trap (q : Query) (choices : ℕ → List Distribution) (v : ℕ → ℕ) (X : ℕ → Type 0) : Type 0 where
   pub needs : (s : ℕ) → X s → Needs q v s
   pub caught : (s : ℕ) → X s → CaughtAt (side_at q s) X v s (choices s)
+
+-- what a function is with another value at one number
+pub with_at : {X : Type 0} → (ℕ → X) → ℕ → X → ℕ → X
+with_at c j x s = elim (cases_eq s j) [ inl _ ↦ x | inr _ ↦ c s ]
+
+pub at-here : {X : Type 0} (c : ℕ → X) (j : ℕ) (x : X) (s : ℕ) → s ≡ j → with_at c j x s ≡ x
+unfolding with_at
+at-here c j x s same = elim (cases_eq s j) as (λ e. elim e [ inl _ ↦ x | inr _ ↦ c s ] ≡ x) [
+  | inl _ ↦ refl
+  | inr other ↦ absurd (other same)
+]
+
+pub at-off : {X : Type 0} (c : ℕ → X) (j : ℕ) (x : X) (s : ℕ) → (s ≡ j → ⊥) → with_at c j x s ≡ c s
+unfolding with_at
+at-off c j x s other = elim (cases_eq s j) as (λ e. elim e [ inl _ ↦ x | inr _ ↦ c s ] ≡ c s) [
+  | inl same ↦ absurd (other same)
+  | inr _ ↦ refl
+]

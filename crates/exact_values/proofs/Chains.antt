@@ -4,18 +4,20 @@ use Rattle.std.proofs.Common.{arith, refl, sym, ap, subst, inl, inr, ◌∙◌}
 use Rattle.std.specs.List.{All, filter, sum_by}
 use Rattle.std.specs.Prelude.{◌==◌, not}
 use Rattle.std.specs.Bool.{if◌then◌else◌}
-use Rattle.std.proofs.lemmas.Bool.{cases_lt, cases_eq, cases_Bool, eqb-true, eq-eqb}
+use Rattle.std.proofs.lemmas.Bool.{cases_lt, cases_eq, eqb-true, eq-eqb}
 use Rattle.std.proofs.lemmas.List.Elements.{All-nil, All-append, All-map, All-filter, filter_passes}
 use Rattle.std.proofs.lemmas.List.Filters.{sum_by-filter_both}
-use Rattle.std.proofs.lemmas.List.Sums.{sum_by-cons, sum_by-append}
+use Rattle.std.proofs.lemmas.List.Sums.{sum_by-append}
 use Rattle.std.proofs.Math.Nat.{mul-le-mul_left, mul-le-mul_right, le_of_mul-le-mul_left, mul-pos, one-le-mul}
 use Rattle.game_model.specs.declared.game.Edge.{Edge}
 use Rattle.game_model.specs.Game.{Distribution}
 use Rattle.game_model.specs.Query.{Query, states, is_goal, is_dead}
 use Rattle.game_model.specs.Values.{weighted_sum}
-use Rattle.exact_values.proofs.Sums.{weight, sums-in_order, sums-same, sum-multiple, sum-constant}
+use Rattle.strategies.proofs.Sums.{sum-map, weighted-constant}
+use Rattle.exact_values.proofs.Sums.{weight, sums-in_order, sums-same, sum-multiple, factor-pos}
 use Rattle.exact_values.proofs.Descent.{Fits}
-use Rattle.exact_values.proofs.Arena.{Free, Needs, Stays}
+use Rattle.exact_values.proofs.Arena.{Free, Needs, Stays, with_at, at-here, at-off}
+use Rattle.exact_values.proofs.Decided.{dec-both, dec-free, dec-lt}
 
 -- the edges that do not lead to a state, and the weight of those that do
 without : ℕ → List Edge → List Edge
@@ -39,7 +41,7 @@ split-sum v j es = omega (
   sum_by-filter_both (λ (e : Edge). e.to == j) (λ e. not (e.to == j)) (λ e. refl) (λ e. e.weight * v e.to) es,
   sums-same v (λ s. v j) (filter (λ (e : Edge). e.to == j) es)
       (λ i e l. ap v (eqb-true _ _ (filter_passes (λ (e : Edge). e.to == j) es i e l))),
-  sum-constant (v j) (filter (λ (e : Edge). e.to == j) es),
+  weighted-constant (v j) (filter (λ (e : Edge). e.to == j) es),
 )
 
 split-weight : (j : ℕ) (es : List Edge) → weight es ≡ weight (without j es) + onto j es
@@ -89,11 +91,7 @@ scaled-sum : (f : Edge → ℕ) → ((k : ℕ) (e : Edge) → f (times k e) ≡ 
     → sum_by f (scaled k es) ≡ k * sum_by f es
 unfolding scaled
 scaled-sum f grows zero es = let at : 0 ≡ 0 * sum_by f es = omega arith in at
-scaled-sum f grows (suc k) [] = let at : 0 ≡ suc k * 0 = omega arith in at
-scaled-sum f grows (suc k) (e ∷ es) =
-    let rest : sum_by f (scaled (suc k) es) ≡ suc k * sum_by f es = scaled-sum f grows (suc k) es in
-    sum_by-cons f (times (suc k) e) (scaled (suc k) es)
-    ∙ rw (sum_by-cons f e es, grows (suc k) e, rest) (omega arith)
+scaled-sum f grows (suc k) es = sum-map f f (times (suc k)) (suc k) (grows (suc k)) es
 
 -- one choice for each state below j: it leads to these, or to states that are over
 pub record Chain (q : Query) (j : ℕ) (m : ℕ → Distribution) : Type 0 where
@@ -161,12 +159,6 @@ module _ (q : Query) (j : ℕ) (m : ℕ → Distribution) where
 
   -- a state that goes on
   module _ (inside_j : j < states q) (free_j : Free q j) (chain : Chain q (suc j) m) where
-    fits_j : Fits (states q) (m j)
-    fits_j = chain.fits j inside_j (omega arith) free_j
-
-    edges_at : ℕ → List Edge
-    edges_at s = (m s).edges
-
     before : (s : ℕ) → s < suc j → (s ≡ j → ⊥) → s < j
     before s less other = elim (cases_lt s j) [ inl l ↦ l | inr r ↦ absurd (other (omega (arith, less, r))) ]
 
@@ -194,34 +186,16 @@ module _ (q : Query) (j : ℕ) (m : ℕ → Distribution) where
         → weight (without j (m s).edges) + onto j (m s).edges ≤ (m s).total
     kept-few s inside less free = omega (arith, split-weight j (m s).edges, (chain.fits s inside less free).few)
 
-    -- what a table is with another entry here
-    with_entry : (ℕ → ℕ) → ℕ → ℕ → ℕ
-    with_entry v x s = elim (cases_eq s j) [ inl _ ↦ x | inr _ ↦ v s ]
-
-    entry-here : (v : ℕ → ℕ) (x s : ℕ) → s ≡ j → with_entry v x s ≡ x
-    unfolding with_entry
-    entry-here v x s same = elim (cases_eq s j) as (λ c. elim c [ inl _ ↦ x | inr _ ↦ v s ] ≡ x) [
-      | inl _ ↦ refl
-      | inr other ↦ absurd (other same)
-    ]
-
-    entry-off : (v : ℕ → ℕ) (x s : ℕ) → (s ≡ j → ⊥) → with_entry v x s ≡ v s
-    unfolding with_entry
-    entry-off v x s other = elim (cases_eq s j) as (λ c. elim c [ inl _ ↦ x | inr _ ↦ v s ] ≡ v s) [
-      | inl same ↦ absurd (other same)
-      | inr _ ↦ refl
-    ]
-
     kept-sum : (v : ℕ → ℕ) (x s : ℕ) → s < states q → s < suc j → Free q s
-        → weighted_sum (with_entry v x) (without j (m s).edges) ≡ weighted_sum v (without j (m s).edges)
-    kept-sum v x s inside less free = sums-same (with_entry v x) v (without j (m s).edges)
-        (λ i e l. entry-off v x _ (kept s inside less free i e l).1)
+        → weighted_sum (with_at v j x) (without j (m s).edges) ≡ weighted_sum v (without j (m s).edges)
+    kept-sum v x s inside less free = sums-same (with_at v j x) v (without j (m s).edges)
+        (λ i e l. at-off v j x _ (kept s inside less free i e l).1)
 
     whole-sum : (v : ℕ → ℕ) (x s : ℕ) → s < states q → s < suc j → Free q s
-        → weighted_sum (with_entry v x) (m s).edges ≡ weighted_sum v (without j (m s).edges) + onto j (m s).edges * x
+        → weighted_sum (with_at v j x) (m s).edges ≡ weighted_sum v (without j (m s).edges) + onto j (m s).edges * x
     whole-sum v x s inside less free =
-        let split = split-sum (with_entry v x) j (m s).edges in
-        omega (arith, split, kept-sum v x s inside less free, ap (λ y. onto j (m s).edges * y) (entry-here v x j refl))
+        let split = split-sum (with_at v j x) j (m s).edges in
+        omega (arith, split, kept-sum v x s inside less free, ap (λ y. onto j (m s).edges * y) (at-here v j x j refl))
 
     goal-off : (s : ℕ) → is_goal q s ≡ true → s ≡ j → ⊥
     goal-off s goal same = let no : is_goal q s ≡ false = ap (is_goal q) same ∙ free_j.0 in absurd (cc)
@@ -231,9 +205,6 @@ module _ (q : Query) (j : ℕ) (m : ℕ → Distribution) where
 
     -- 1. It never leaves: its value is 0.
     module _ (never : (m j).total ≤ onto j (m j).edges) where
-      cut : ℕ → Distribution
-      cut s = record { total = (m s).total; edges = without j (m s).edges }
-
       cut-chain : Chain q j (λ s. record { total = (m s).total; edges = without j (m s).edges })
       cut-chain = record {
         fits = λ s inside less free.
@@ -254,21 +225,21 @@ module _ (q : Query) (j : ℕ) (m : ℕ → Distribution) where
           → Solution q (suc j) m
       cut-solution sol = record {
         top = sol.top;
-        value = with_entry sol.value 0;
+        value = with_at sol.value j 0;
         positive = sol.positive;
         most = λ s inside. elim (cases_eq s j) [
-          | inl same ↦ omega (arith, entry-here sol.value 0 s same)
-          | inr other ↦ omega (arith, entry-off sol.value 0 s other, sol.most s inside)
+          | inl same ↦ omega (arith, at-here sol.value j 0 s same)
+          | inr other ↦ omega (arith, at-off sol.value j 0 s other, sol.most s inside)
         ];
-        goals = λ s inside goal. entry-off sol.value 0 s (goal-off s goal) ∙ sol.goals s inside goal;
-        deads = λ s inside other dead. entry-off sol.value 0 s (dead-off s dead) ∙ sol.deads s inside other dead;
+        goals = λ s inside goal. at-off sol.value j 0 s (goal-off s goal) ∙ sol.goals s inside goal;
+        deads = λ s inside other dead. at-off sol.value j 0 s (dead-off s dead) ∙ sol.deads s inside other dead;
         harmonic = λ s inside less free. elim (cases_eq s j) [
           | inr other ↦
               omega (
                 arith,
                 whole-sum sol.value 0 s inside less free,
                 sol.harmonic s inside (before s less other) free,
-                ap (λ x. x * (m s).total) (entry-off sol.value 0 s other),
+                ap (λ x. x * (m s).total) (at-off sol.value j 0 s other),
               )
           | inl same ↦
               let none : weight (without j (m s).edges) ≡ 0 = subst (λ x. weight (without j (m x).edges) ≡ 0) (sym same)
@@ -279,28 +250,28 @@ module _ (q : Query) (j : ℕ) (m : ℕ → Distribution) where
               (λ i e l. sol.most _ (kept-inside s inside less free i e l)) in
               let small : weighted_sum sol.value (without j (m s).edges) ≡ 0 =
               zero-sum (weighted_sum sol.value (without j (m s).edges)) (weight (without j (m s).edges)) sol.top none
-              (omega (arith, bound, sum-constant sol.top (without j (m s).edges))) in
+              (omega (arith, bound, weighted-constant sol.top (without j (m s).edges))) in
               omega (
                 arith,
                 whole-sum sol.value 0 s inside less free,
                 small,
-                ap (λ x. x * (m s).total) (entry-here sol.value 0 s same),
+                ap (λ x. x * (m s).total) (at-here sol.value j 0 s same),
               )
         ];
         no_trap = λ X trap. sol.no_trap X (λ s h.
             let at = trap s h in
-            let off : s ≡ j → ⊥ = λ same. absurd (omega (arith, at.1.some, entry-here sol.value 0 s same)) in (
+            let off : s ≡ j → ⊥ = λ same. absurd (omega (arith, at.1.some, at-here sol.value j 0 s same)) in (
               before s at.0 off,
               record {
                 inside = at.1.inside;
                 free = at.1.free;
-                some = omega (arith, at.1.some, entry-off sol.value 0 s off);
+                some = omega (arith, at.1.some, at-off sol.value j 0 s off);
               },
               λ i e l.
                   let k =
-                  without-all (λ (e : Edge). X e.to × (with_entry sol.value 0 e.to ≡ with_entry sol.value 0 s))
+                  without-all (λ (e : Edge). X e.to × (with_at sol.value j 0 e.to ≡ with_at sol.value j 0 s))
                   j (m s).edges at.2 i e l in
-                  (k.0.0, sym (entry-off sol.value 0 _ k.1) ∙ k.0.1 ∙ entry-off sol.value 0 s off),
+                  (k.0.0, sym (at-off sol.value j 0 _ k.1) ∙ k.0.1 ∙ at-off sol.value j 0 s off),
             ));
       }
 
@@ -330,6 +301,12 @@ module _ (q : Query) (j : ℕ) (m : ℕ → Distribution) where
             scaled-sum f grows (onto j (m s).edges) (without j (m j).edges),
           ) refl
 
+      past-all : (P : ℕ → Type 0) (s : ℕ) → All (λ e. P e.to) (without j (m s).edges)
+          → (0 < onto j (m s).edges → All (λ e. P e.to) (without j (m j).edges)) → All (λ e. P e.to) (past s).edges
+      past-all P s some own = All-append (λ (e : Edge). P e.to) (scaled rest (without j (m s).edges))
+          (scaled (onto j (m s).edges) (without j (m j).edges)) (scaled-all P rest (without j (m s).edges) (λ _. some))
+          (scaled-all P (onto j (m s).edges) (without j (m j).edges) own)
+
       past-chain : Chain q j past
       past-chain = record {
         fits = λ s inside less free.
@@ -344,18 +321,12 @@ module _ (q : Query) (j : ℕ) (m : ℕ → Distribution) where
               few = past-weight (weight (past s).edges) (onto j (m s).edges) rest (weight (without j (m s).edges))
                   (weight (without j (m j).edges)) (m s).total (kept-few s inside (omega (arith, less)) free) own-few
                   (past-sum (λ e. e.weight) (λ k e. refl) s);
-              inside = All-append (λ (e : Edge). e.to < states q) (scaled rest (without j (m s).edges))
-                  (scaled (onto j (m s).edges) (without j (m j).edges))
-                  (scaled-all (λ t. t < states q) rest (without j (m s).edges)
-                  (λ _. kept-inside s inside (omega (arith, less)) free)) (scaled-all (λ t. t < states q)
-                  (onto j (m s).edges) (without j (m j).edges) (λ _. kept-inside j inside_j (omega arith) free_j));
+              inside = past-all (λ t. t < states q) s (kept-inside s inside (omega (arith, less)) free)
+                  (λ _. kept-inside j inside_j (omega arith) free_j);
             };
         closed = λ s inside less free.
-            All-append (λ (e : Edge). Free q e.to → e.to < j) (scaled rest (without j (m s).edges))
-            (scaled (onto j (m s).edges) (without j (m j).edges))
-            (scaled-all (λ t. Free q t → t < j) rest (without j (m s).edges)
-            (λ _. kept-closed s inside (omega (arith, less)) free)) (scaled-all (λ t. Free q t → t < j)
-            (onto j (m s).edges) (without j (m j).edges) (λ _. kept-closed j inside_j (omega arith) free_j));
+            past-all (λ t. Free q t → t < j) s (kept-closed s inside (omega (arith, less)) free)
+            (λ _. kept-closed j inside_j (omega arith) free_j);
       }
 
       own-share : (u r x tot : ℕ) → u + r ≡ tot → x * r + u * x ≡ x * tot
@@ -370,7 +341,7 @@ module _ (q : Query) (j : ℕ) (m : ℕ → Distribution) where
         own = weighted_sum sol.value (without j (m j).edges)
 
         abbrev table : ℕ → ℕ
-        table s = with_entry (λ t. sol.value t * rest) own s
+        table s = with_at (λ t. sol.value t * rest) j own s
 
         table-sum : (s : ℕ) → s < states q → s < suc j → Free q s → weighted_sum table (m s).edges
             ≡ weighted_sum sol.value (without j (m s).edges) * rest + onto j (m s).edges * own
@@ -383,7 +354,7 @@ module _ (q : Query) (j : ℕ) (m : ℕ → Distribution) where
             let sums : own ≤ weighted_sum (λ t. sol.top) (without j (m j).edges) =
             sums-in_order sol.value (λ t. sol.top) (without j (m j).edges)
             (λ i e l. sol.most _ (kept-inside j inside_j (omega arith) free_j i e l)) in
-            omega (arith, sums, sum-constant sol.top (without j (m j).edges), mul-le-mul_right sol.top own-few)
+            omega (arith, sums, weighted-constant sol.top (without j (m j).edges), mul-le-mul_right sol.top own-few)
 
         table-harmonic : (s : ℕ) → s < states q → s < suc j → Free q s
             → weighted_sum table (m s).edges ≡ table s * (m s).total
@@ -393,13 +364,13 @@ module _ (q : Query) (j : ℕ) (m : ℕ → Distribution) where
               (onto j (m s).edges) rest (weighted_sum sol.value (without j (m s).edges)) own (sol.value s) (m s).total
               (past-sum (λ e. e.weight * sol.value e.to) (λ k e. omega arith) s)
               (sol.harmonic s inside (before s less other) free) (table-sum s inside less free)
-              ∙ ap (λ x. x * (m s).total) (sym (entry-off (λ t. sol.value t * rest) own s other))
+              ∙ ap (λ x. x * (m s).total) (sym (at-off (λ t. sol.value t * rest) j own s other))
           | inl same ↦
               let here : weighted_sum table (m j).edges ≡ own * (m j).total =
               table-sum j inside_j (omega arith) free_j
               ∙ own-share (onto j (m j).edges) rest own (m j).total (omega (arith, leaves)) in
               subst (λ x. weighted_sum table (m x).edges ≡ own * (m x).total) (sym same) here
-              ∙ ap (λ x. x * (m s).total) (sym (entry-here (λ t. sol.value t * rest) own s same))
+              ∙ ap (λ x. x * (m s).total) (sym (at-here (λ t. sol.value t * rest) j own s same))
         ]
 
         cancel-rest : (x y : ℕ) → x * rest ≡ y * rest → x ≡ y
@@ -416,31 +387,21 @@ module _ (q : Query) (j : ℕ) (m : ℕ → Distribution) where
           stays-kept y s h same = λ i e l.
               let k = without-all (λ (e : Edge). X e.to × (table e.to ≡ table s)) j (m s).edges (trap s h).2 i e l in (
                 (k.0.0, before _ (trap _ k.0.0).0 k.1),
-                cancel-rest _ (sol.value y) (sym (entry-off (λ t. sol.value t * rest) own _ k.1) ∙ k.0.1 ∙ same),
+                cancel-rest _ (sol.value y) (sym (at-off (λ t. sol.value t * rest) j own _ k.1) ∙ k.0.1 ∙ same),
               )
 
           none-below : (s : ℕ) → X s × (s < j) → ⊥
           none-below = sol.no_trap (λ s. X s × (s < j)) (λ y h.
               let at = trap y h.0 in
               let off : y ≡ j → ⊥ = λ same. omega (arith, h.1, same) in
-              let same_y : table y ≡ sol.value y * rest = entry-off (λ t. sol.value t * rest) own y off in
-              let some : 0 < sol.value y = elim (cases_lt 0 (sol.value y)) [
-                | inl l ↦ l
-                | inr none ↦
-                    let no_value : sol.value y ≡ 0 = omega (arith, none) in
-                    absurd (omega (arith, at.1.some, same_y, ap (λ x. x * rest) no_value))
-              ] in (
+              let same_y : table y ≡ sol.value y * rest = at-off (λ t. sol.value t * rest) j own y off in
+              let some : 0 < sol.value y = factor-pos (sol.value y) rest 0 (omega (arith, at.1.some, same_y)) in (
                 h.1,
                 record { inside = at.1.inside; free = at.1.free; some = some },
-                All-append (λ (e : Edge). (X e.to × (e.to < j)) × (sol.value e.to ≡ sol.value y))
-                    (scaled rest (without j (m y).edges)) (scaled (onto j (m y).edges) (without j (m j).edges))
-                    (scaled-all (λ t. (X t × (t < j)) × (sol.value t ≡ sol.value y)) rest (without j (m y).edges)
-                    (λ _. stays-kept y y h.0 same_y))
-                    (scaled-all (λ t. (X t × (t < j)) × (sol.value t ≡ sol.value y)) (onto j (m y).edges)
-                    (without j (m j).edges) (λ leads.
+                past-all (λ t. (X t × (t < j)) × (sol.value t ≡ sol.value y)) y (stays-kept y y h.0 same_y) (λ leads.
                     let here : X j × (table j ≡ table y) =
                     onto-some (λ t. X t × (table t ≡ table y)) j (m y).edges at.2 leads in
-                    stays-kept y j here.0 (here.1 ∙ same_y))),
+                    stays-kept y j here.0 (here.1 ∙ same_y)),
               ))
 
           none : (s : ℕ) → X s → ⊥
@@ -451,9 +412,10 @@ module _ (q : Query) (j : ℕ) (m : ℕ → Distribution) where
                 let here : X j = subst X same h in
                 let some : 0 < table j = (trap j here).1.some in
                 no-edges (without j (m j).edges) (λ i e l.
-                let k = without-all (λ (e : Edge). X e.to × (table e.to ≡ table j)) j (m j).edges (trap j here).2 i e l in
+                let k =
+                without-all (λ (e : Edge). X e.to × (table e.to ≡ table j)) j (m j).edges (trap j here).2 i e l in
                 none-below _ (k.0.0, before _ (trap _ k.0.0).0 k.1))
-                (subst (λ x. 0 < x) (entry-here (λ t. sol.value t * rest) own j refl) some)
+                (subst (λ x. 0 < x) (at-here (λ t. sol.value t * rest) j own j refl) some)
           ]
             where
               no-edges : (es : List Edge) → All (λ (e : Edge). ⊥) es → 0 < weighted_sum sol.value es → ⊥
@@ -466,15 +428,15 @@ module _ (q : Query) (j : ℕ) (m : ℕ → Distribution) where
           value = table;
           positive = mul-pos sol.positive (omega (arith, leaves));
           most = λ s inside. elim (cases_eq s j) [
-            | inl same ↦ omega (arith, entry-here (λ t. sol.value t * rest) own s same, own-most)
+            | inl same ↦ omega (arith, at-here (λ t. sol.value t * rest) j own s same, own-most)
             | inr other ↦ omega
-                (arith, entry-off (λ t. sol.value t * rest) own s other, mul-le-mul_right rest (sol.most s inside))
+                (arith, at-off (λ t. sol.value t * rest) j own s other, mul-le-mul_right rest (sol.most s inside))
           ];
-          goals = λ s inside goal. entry-off (λ t. sol.value t * rest) own s (goal-off s goal)
+          goals = λ s inside goal. at-off (λ t. sol.value t * rest) j own s (goal-off s goal)
               ∙ ap (λ x. x * rest) (sol.goals s inside goal);
           deads = λ s inside other dead. omega (
             arith,
-            entry-off (λ t. sol.value t * rest) own s (dead-off s dead),
+            at-off (λ t. sol.value t * rest) j own s (dead-off s dead),
             ap (λ x. x * rest) (sol.deads s inside other dead),
           );
           harmonic = table-harmonic;
@@ -484,23 +446,13 @@ module _ (q : Query) (j : ℕ) (m : ℕ → Distribution) where
 -- each chain has a solution
 pub solution : (q : Query) (j : ℕ) (m : ℕ → Distribution) → Chain q j m → Solution q j m
 solution q zero m chain = no-states q m
-solution q (suc j) m chain = elim (cases_lt j (states q)) [
-  | inr past_end ↦ passed q j m (λ inside free. omega (arith, inside, past_end))
-      (solution q j m (passed-chain q j m (λ inside free. omega (arith, inside, past_end)) chain))
-  | inl inside ↦ elim (cases_Bool (is_goal q j)) [
-    | inl goal ↦
-        let over : j < states q → Free q j → ⊥ = λ l free. absurd (let no : is_goal q j ≡ false = free.0 in cc) in
-        passed q j m over (solution q j m (passed-chain q j m over chain))
-    | inr other ↦ elim (cases_Bool (is_dead q j)) [
-      | inl dead ↦
-          let over : j < states q → Free q j → ⊥ = λ l free. absurd (let no : is_dead q j ≡ false = free.1 in cc) in
-          passed q j m over (solution q j m (passed-chain q j m over chain))
-      | inr alive ↦ elim (cases_lt (onto j (m j).edges) (m j).total) [
-        | inl leaves ↦ past-solution q j m inside (other, alive) chain leaves
-            (solution q j _ (past-chain q j m inside (other, alive) chain leaves))
-        | inr never ↦ cut-solution q j m inside (other, alive) chain never
-            (solution q j _ (cut-chain q j m inside (other, alive) chain never))
-      ]
-    ]
+solution q (suc j) m chain = elim (dec-both _ _ (dec-lt j (states q)) (dec-free q j)) [
+  | inr over ↦
+      let past : j < states q → Free q j → ⊥ = λ inside free. over (inside, free) in
+      passed q j m past (solution q j m (passed-chain q j m past chain))
+  | inl at ↦ elim (cases_lt (onto j (m j).edges) (m j).total) [
+    | inl leaves ↦
+        past-solution q j m at.0 at.1 chain leaves (solution q j _ (past-chain q j m at.0 at.1 chain leaves))
+    | inr never ↦ cut-solution q j m at.0 at.1 chain never (solution q j _ (cut-chain q j m at.0 at.1 chain never))
   ]
 ]

@@ -99,20 +99,13 @@ pub record Meets (n : ℕ) (v rank v' : ℕ → ℕ) (s : ℕ) : Type 0 where
 -- one table is above the other by at most d, if such a choice is at each state where it would be more
 module _ (n : ℕ) (v rank v' : ℕ → ℕ) (t t' d : ℕ) (most : (y : ℕ) → y < n → v y ≤ t)
     (step : (y : ℕ) → y < n → v' y * t + d < v y * t' → Meets n v rank v' y) where
-  difference : ℕ → ℕ
-  difference y = v y * t' - v' y * t
-
-  gap : ℕ → Type 0
-  gap e = (y : ℕ) → y < n → v y * t' ≤ v' y * t + e
-
   no-more : (e : ℕ) → d < e → ((y : ℕ) → y < n → v y * t' ≤ v' y * t + e) → (x : ℕ) → x < n
       → v x * t' ≡ v' x * t + e → ⊥
   no-more e more all x inside same =
       nowhere v rank t (λ y. (y < n) × (v y * t' ≡ v' y * t + e)) (λ y h. most y h.0)
       (λ y h.
       let at : Meets n v rank v' y = step y h.0 (omega (arith, h.1, more)) in
-      let equal = same-difference n v v' t t' e all y at.choice at.fits h.1 at.enough at.held in
-      let to : ℕ = (get_or at.choice.edges at.onward.place no_edge).to in (
+      let equal = same-difference n v v' t t' e all y at.choice at.fits h.1 at.enough at.held in (
         (get_or at.choice.edges at.onward.place no_edge).to,
         (
           (

@@ -8,13 +8,14 @@ use Rattle.game_model.specs.declared.game.Edge.{Edge}
 use Rattle.game_model.specs.declared.game.Side.{Side}
 use Rattle.game_model.specs.declared.game.Side.TheVariants.{Max, Min}
 use Rattle.game_model.specs.Game.{Distribution, no_edge}
-use Rattle.game_model.specs.Query.{Query, states, is_goal, is_dead, side_at}
+use Rattle.game_model.specs.Query.{Query, states, side_at}
 use Rattle.game_model.specs.Values.{weighted_sum}
-use Rattle.exact_values.proofs.Sums.{tight, sum-constant}
+use Rattle.strategies.proofs.Sums.{weighted-constant}
+use Rattle.exact_values.proofs.Sums.{tight}
 use Rattle.exact_values.proofs.Descent.{Fits, Enough, Onward}
 use Rattle.exact_values.proofs.Arena.{Some, Some-weaker, Some-place, Some-both, SolvedAt, FitAll, Solves, Needs}
 use Rattle.exact_values.proofs.Arena.{RankedAt, Ranks, Stays, CaughtAt, Trap}
-use Rattle.exact_values.proofs.Decided.{Decided, dec-all, dec-both, dec-either, dec-eq, dec-false, dec-le, dec-lt}
+use Rattle.exact_values.proofs.Decided.{Decided, dec-all, dec-both, dec-either, dec-eq, dec-free, dec-le, dec-lt}
 use Rattle.exact_values.proofs.Decided.{dec-not, dec-some, not-all, none-all, tally, tally-more, tally-most}
 
 module _ (q : Query) (choices : ℕ → List Distribution) (v : ℕ → ℕ) where
@@ -32,7 +33,7 @@ module _ (q : Query) (choices : ℕ → List Distribution) (v : ℕ → ℕ) whe
 
   pub dec-needs : (s : ℕ) → Decided (Needs q v s)
   dec-needs s = elim (dec-both _ _ (dec-lt s (states q))
-      (dec-both _ _ (dec-both _ _ (dec-false (is_goal q s)) (dec-false (is_dead q s))) (dec-lt 0 (v s)))) [
+      (dec-both _ _ (dec-free q s) (dec-lt 0 (v s)))) [
         | inl h ↦ inl (record { inside = h.0; free = h.1.0; some = h.1.1 })
         | inr h ↦ inr (λ n. h (n.inside, (n.free, n.some)))
       ]
@@ -118,7 +119,7 @@ all-equal : (n : ℕ) (v : ℕ → ℕ) (s : ℕ) (m : Distribution) → Fits n 
     → All (λ e. v e.to ≤ v s) m.edges → All (λ e. v e.to ≡ v s) m.edges
 all-equal n v s m fits enough most =
     tight v (λ t. v s) m.edges fits.weights most
-    (rw (sum-constant (v s) m.edges) (omega (arith, enough, mul-le-mul_right (v s) fits.few)))
+    (rw (weighted-constant (v s) m.edges) (omega (arith, enough, mul-le-mul_right (v s) fits.few)))
 
 module _ (q : Query) (choices : ℕ → List Distribution) (fit : FitAll q choices) (t : ℕ) (v : ℕ → ℕ)
     (solves : Solves q choices t v) where

@@ -1,5 +1,5 @@
 -- The plans of exact values.
-use Rattle.std.proofs.Common.{◌≡◌, ℕ, ◌+◌, ◌*◌, ◌^◌, ◌<◌, ◌≤◌, ◌⊎◌, Bool, true, false, List, [], length, map}
+use Rattle.std.proofs.Common.{◌≡◌, ℕ, ◌+◌, ◌*◌, ◌^◌, ◌<◌, ◌≤◌, Bool, true, false, List, [], length, map}
 use Rattle.std.proofs.Common.{take, drop, sum, get_or, arith, refl, sym, subst, inl, inr, ◌∙◌, Option, Some, None}
 use Rattle.std.specs.Prelude.{slice_index, slice_index_or}
 use Rattle.std.specs.List.{AllByRecursion, range_with_len}
@@ -25,6 +25,7 @@ use Rattle.strategies.proofs.Turns.{pow-product}
 use Rattle.strategies.proofs.Plans.{plan-least}
 use Rattle.exact_values.proofs.Descent.{Fits, Held, Enough, Onward}
 use Rattle.exact_values.proofs.Arena.{Free, Some-place, SolvedAt, FitAll, Needs, RankedAt, Exact}
+use Rattle.exact_values.proofs.Decided.{dec-free}
 use Rattle.exact_values.proofs.Layers.{dec-needs}
 use Rattle.exact_values.proofs.Values.{exact-values}
 
@@ -103,26 +104,17 @@ module _ (q : Query) (posed : IsQuery q) (a : Exact q (choices_of q.game)) where
   pub answering : (s : ℕ) (side : Side) → side_at q s ≡ side → (c : ℕ) × (s < states q → Free q s → side_at q s ≡ Min
       → (c < length (choices_of q.game s)) × Held a.value s (choice_of q.game s c))
   answering s Max is = (0, λ inside free min. absurd (let no : Max ≡ Min = sym is ∙ min in cc))
-  answering s Min is = answers (states q) refl
-    where
-      answers : (n : ℕ) → states q ≡ n → (c : ℕ) × (s < states q → Free q s → side_at q s ≡ Min
-          → (c < length (choices_of q.game s)) × Held a.value s (choice_of q.game s c))
-      answers n same = elim (cases_lt s (states q)) [
-        | inr past ↦ (0, λ inside free min. absurd (omega (arith, inside, past)))
-        | inl inside ↦ elim (cases_free (is_goal q s) (is_dead q s)) [
-          | inr over ↦ (0, λ _ free min. absurd (over free))
-          | inl free ↦
-              let solved : SolvedAt Min a.value s (choices_of q.game s) =
-              subst (λ side. SolvedAt side a.value s (choices_of q.game s)) is (a.solves.solved s inside free) in
-              let at = Some-place (Held a.value s) (choices_of q.game s) no_distribution solved.1 in
-              (at.0, λ _ _ _. at.1)
-        ]
-      ]
-        where
-          cases_free : (goal dead : Bool) → ((goal ≡ false) × (dead ≡ false)) ⊎ ((goal ≡ false) × (dead ≡ false) → ⊥)
-          cases_free true dead = inr (λ h. absurd (let no : true ≡ false = h.0 in cc))
-          cases_free false true = inr (λ h. absurd (let no : true ≡ false = h.1 in cc))
-          cases_free false false = inl (refl, refl)
+  answering s Min is = elim (cases_lt s (states q)) [
+    | inr past ↦ (0, λ inside free min. absurd (omega (arith, inside, past)))
+    | inl inside ↦ elim (dec-free q s) [
+      | inr over ↦ (0, λ _ free min. absurd (over free))
+      | inl free ↦
+          let solved : SolvedAt Min a.value s (choices_of q.game s) =
+          subst (λ side. SolvedAt side a.value s (choices_of q.game s)) is (a.solves.solved s inside free) in
+          let at = Some-place (Held a.value s) (choices_of q.game s) no_distribution solved.1 in
+          (at.0, λ _ _ _. at.1)
+    ]
+  ]
 
   abbrev pub replies : List (Option ℕ)
   replies = map (λ s. Some (answering s (side_at q s) refl).0) (range_with_len 0 (states q))

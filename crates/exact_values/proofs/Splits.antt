@@ -11,7 +11,8 @@ use Rattle.game_model.specs.declared.game.Side.TheVariants.{Max, Min}
 use Rattle.game_model.specs.Game.{Distribution, no_edge, no_distribution}
 use Rattle.game_model.specs.Query.{Query, states, is_goal, is_dead, side_at}
 use Rattle.game_model.specs.Values.{weighted_sum}
-use Rattle.exact_values.proofs.Sums.{weight, sums-in_order, sum-affine, sum-multiple, sum-constant}
+use Rattle.strategies.proofs.Sums.{weighted-constant}
+use Rattle.exact_values.proofs.Sums.{weight, sums-in_order, sum-affine, sum-multiple, factor-pos}
 use Rattle.exact_values.proofs.Descent.{Fits, Held, Enough, Further, Onward, Meets, nowhere, compared, same-difference}
 use Rattle.exact_values.proofs.Arena.{Some, Some-place, Some-both, Free, SolvedAt, FitAll, Solves, Needs, RankedAt}
 use Rattle.exact_values.proofs.Arena.{Ranks, Exact, Stays, CaughtAt, Trap}
@@ -32,12 +33,6 @@ some-greater v c (e ∷ es) h =
           let rest = some-greater v c es (omega (arith, h, first, whole, mul-le-mul_left e.weight few)) in
           (suc rest.0, omega (arith, rest.1), rest.2)
     ]
-
-equal-of : (t x y : ℕ) → 0 < t → x * t ≡ y * t → x ≡ y
-equal-of t x y positive h =
-    let one : x ≤ y = le_of_mul-le-mul_left (let at : t * x ≤ t * y = omega (arith, h) in at) positive in
-    let two : y ≤ x = le_of_mul-le-mul_left (let at : t * y ≤ t * x = omega (arith, h) in at) positive in
-    omega (arith, one, two)
 
 -- one choice that serves both tables, where the state has the same choices for both
 meet : (n : ℕ) (v rank v' : ℕ → ℕ) (y : ℕ) (side : Side) (ms : List Distribution) → All (Fits n) ms
@@ -75,12 +70,7 @@ module _ (q : Query) (j : ℕ) (one two : ℕ → List Distribution) (fit : FitA
       | inr alive ↦ record {
         inside = inside;
         free = (other, alive);
-        some = elim (cases_lt 0 (v y)) [
-          | inl some ↦ some
-          | inr none ↦
-              let no_value : v y ≡ 0 = omega (arith, none) in
-              absurd (omega (arith, more, ap (λ x. x * t') no_value))
-        ];
+        some = factor-pos (v y) t' (v' y * t + d) more;
       }
     ]
   ]
@@ -206,12 +196,7 @@ module _ (q : Query) (j : ℕ) (inside_j : j < states q) (free_j : Free q j) (bo
     needs-two more = record {
       inside = inside_j;
       free = free_j;
-      some = elim (cases_lt 0 (b.value j)) [
-        | inl some ↦ some
-        | inr none ↦
-            let no_value : b.value j ≡ 0 = omega (arith, none) in
-            absurd (omega (arith, more, ap (λ x. x * a.top) no_value))
-      ];
+      some = factor-pos (b.value j) a.top (a.value j * b.top) more;
     }
 
     -- each choice of the second is enough for the first
@@ -251,13 +236,12 @@ module _ (q : Query) (j : ℕ) (inside_j : j < states q) (free_j : Free q j) (bo
         (all_at (Enough a.value j) least_one.0 all-enough, some_at (Held a.value j) least_one.1))
 
     -- the second game's values are above by as much as at the state, at most
-    ahead : ℕ
+    abbrev ahead : ℕ
     ahead = b.value j * a.top - a.value j * b.top
 
-    all-ahead : (x : ℕ) → x < states q → b.value x * a.top ≤ a.value x * b.top + (b.value j * a.top - a.value j * b.top)
+    all-ahead : (x : ℕ) → x < states q → b.value x * a.top ≤ a.value x * b.top + ahead
     all-ahead = compare-off q j two one fit_two (λ s other. sym (off s other)) b.top a.top b.value b.rank a.value
-        b.solves b.ranks a.solves (b.value j * a.top - a.value j * b.top)
-        (λ more. absurd (omega (arith, more)))
+        b.solves b.ranks a.solves ahead (λ more. absurd (omega (arith, more)))
 
     module _ (X : ℕ → Type 0) (trap : Trap q both a.value X) where
       -- a choice along which the second game goes on, in the trap
@@ -277,29 +261,28 @@ module _ (q : Query) (j : ℕ) (inside_j : j < states q) (free_j : Free q j) (bo
           le_of_mul-le-mul_left whole positive
 
       sums-ahead : (m : Distribution) → Fits (states q) m → weighted_sum b.value m.edges * a.top
-          ≤ weighted_sum a.value m.edges * b.top + weight m.edges * (b.value j * a.top - a.value j * b.top)
+          ≤ weighted_sum a.value m.edges * b.top + weight m.edges * ahead
       sums-ahead m fits =
           rw (← sum-multiple b.value a.top m.edges, ← sum-affine a.value b.top _ m.edges)
-          (sums-in_order (λ s. b.value s * a.top) (λ s. a.value s * b.top + (b.value j * a.top - a.value j * b.top))
-          m.edges (λ i e l. all-ahead _ (fits.inside i e l)))
+          (sums-in_order (λ s. b.value s * a.top) (λ s. a.value s * b.top + ahead) m.edges
+          (λ i e l. all-ahead _ (fits.inside i e l)))
 
       stays-held : (y : ℕ) (m : Distribution) → Fits (states q) m → Stays X a.value y m → Held a.value y m
       stays-held y m fits stays =
           let sums : weighted_sum a.value m.edges ≤ weighted_sum (λ s. a.value y) m.edges =
           sums-in_order a.value (λ s. a.value y) m.edges (λ i e l. omega (arith, (stays i e l).1)) in
-          omega (arith, sums, sum-constant (a.value y) m.edges, mul-le-mul_right (a.value y) fits.few)
+          omega (arith, sums, weighted-constant (a.value y) m.edges, mul-le-mul_right (a.value y) fits.few)
 
-      enough-here : (y : ℕ) → b.value y * a.top ≡ a.value y * b.top + (b.value j * a.top - a.value j * b.top)
+      enough-here : (y : ℕ) → b.value y * a.top ≡ a.value y * b.top + ahead
           → (m : Distribution) → Fits (states q) m → Enough b.value y m → Enough a.value y m
       enough-here y same m fits enough =
           enough-first (weighted_sum a.value m.edges) (weighted_sum b.value m.edges) (a.value y) (b.value y) a.top b.top
-          (b.value j * a.top - a.value j * b.top) (weight m.edges) m.total b.solves.positive same enough
-          (sums-ahead m fits) fits.few
+          ahead (weight m.edges) m.total b.solves.positive same enough (sums-ahead m fits) fits.few
 
-      walk : (y : ℕ) → y < states q → b.value y * a.top ≡ a.value y * b.top + (b.value j * a.top - a.value j * b.top)
+      walk : (y : ℕ) → b.value y * a.top ≡ a.value y * b.top + ahead
           → (side : Side) (ms : List Distribution) → All (Fits (states q)) ms → SolvedAt side a.value y ms
           → SolvedAt side b.value y ms → RankedAt side b.value b.rank y ms → CaughtAt side X a.value y ms → Walks y
-      walk y inside same Max ms fits first second ranked caught =
+      walk y same Max ms fits first second ranked caught =
           let one = Some-place (λ m. Enough b.value y m × Onward b.value b.rank y m) ms no_distribution ranked in
           let fit = fits one.0 no_distribution one.1.0 in
           record {
@@ -310,7 +293,7 @@ module _ (q : Query) (j : ℕ) (inside_j : j < states q) (free_j : Free q j) (bo
             held = first.0 one.0 no_distribution one.1.0;
             stays = caught one.0 no_distribution one.1.0 (enough-here y same _ fit one.1.1.0);
           }
-      walk y inside same Min ms fits first second ranked caught =
+      walk y same Min ms fits first second ranked caught =
           let one = Some-place (Stays X a.value y) ms no_distribution caught in
           let fit = fits one.0 no_distribution one.1.0 in
           record {
@@ -322,45 +305,35 @@ module _ (q : Query) (j : ℕ) (inside_j : j < states q) (free_j : Free q j) (bo
             stays = one.1.1;
           }
 
-      positive-two : (va vb ta tb d : ℕ) → 0 < va → 0 < tb → vb * ta ≡ va * tb + d → 0 < vb
-      positive-two va vb ta tb d some positive same = elim (cases_lt 0 vb) [
-        | inl more ↦ more
-        | inr none ↦
-            let no_value : vb ≡ 0 = omega (arith, none) in
-            absurd (omega (arith, same, ap (λ x. x * ta) no_value, mul-pos some positive))
-      ]
-
       -- it does not hold a choice of the second game
       two-free : X j → Some (Stays X a.value j) (two j) → ⊥
       two-free here stay =
-          nowhere b.value b.rank b.top
-          (λ y. X y × (b.value y * a.top ≡ a.value y * b.top + (b.value j * a.top - a.value j * b.top)))
+          nowhere b.value b.rank b.top (λ y. X y × (b.value y * a.top ≡ a.value y * b.top + ahead))
           (λ y h. b.solves.most y (trap.needs y h.0).inside)
           (λ y h.
           let needs : Needs q a.value y = trap.needs y h.0 in
           let needs' : Needs q b.value y = record {
             inside = needs.inside;
             free = needs.free;
-            some = positive-two (a.value y) (b.value y) a.top b.top
-                (b.value j * a.top - a.value j * b.top) needs.some b.solves.positive h.1;
+            some = factor-pos (b.value y) a.top 0 (omega (arith, h.1, mul-pos needs.some b.solves.positive));
           } in
           let m : Walks y = elim (cases_eq y j) [
             | inl same ↦ subst Walks (sym same)
-                (walk j inside_j
-                (subst (λ z. b.value z * a.top ≡ a.value z * b.top + (b.value j * a.top - a.value j * b.top)) same h.1)
-                Min (two j) (fit_two j inside_j) (
+                (walk j (subst (λ z. b.value z * a.top ≡ a.value z * b.top + ahead) same h.1) Min (two j)
+                (fit_two j inside_j) (
                   all-enough,
                   Some-both (Fits (states q)) (Stays X a.value j) (Held a.value j) (stays-held j) (two j)
                       (fit_two j inside_j) stay,
                 ) least_two (ranked_two (subst (Needs q b.value) same needs')) stay)
             | inr other ↦
-                walk y needs.inside h.1 (side_at q y) (two y) (fit_two y needs.inside) (subst
+                walk y h.1 (side_at q y) (two y) (fit_two y needs.inside) (subst
                 (λ ms. SolvedAt (side_at q y) a.value y ms) (off y other) (a.solves.solved y needs.inside needs.free))
                 (b.solves.solved y needs.inside needs.free) (b.ranks y needs')
                 (subst (λ ms. CaughtAt (side_at q y) X a.value y ms) (sym (off_two y other)) (trap.caught y h.0))
           ] in
-          let equal = same-difference (states q) b.value a.value b.top a.top
-          (b.value j * a.top - a.value j * b.top) all-ahead y m.choice m.fits h.1 m.enough m.held in
+          let equal =
+          same-difference (states q) b.value a.value b.top a.top ahead all-ahead
+          y m.choice m.fits h.1 m.enough m.held in
           let stays_at = m.stays m.onward.place no_edge m.onward.within in (
             (get_or m.choice.edges m.onward.place no_edge).to,
             ((stays_at.0, equal m.onward.place no_edge m.onward.within), m.onward.further),

@@ -1,5 +1,5 @@
 -- Sums over edges.
-use Rattle.std.proofs.Common.{◌≡◌, ℕ, ◌+◌, ◌*◌, ◌≤◌, List, [], ◌∷◌, sum_by, arith}
+use Rattle.std.proofs.Common.{◌≡◌, ℕ, zero, suc, ◌<◌, ◌+◌, ◌*◌, ◌≤◌, List, [], ◌∷◌, sum_by, arith}
 use Rattle.std.specs.List.{All}
 use Rattle.std.proofs.Math.Nat.{mul-le-mul_left, le_of_mul-le-mul_left}
 use Rattle.std.proofs.lemmas.List.Elements.{All-nil, All-cons, All-head, All-tail}
@@ -66,17 +66,13 @@ sum-affine v t d (e ∷ es) =
 
 pub sum-multiple : (v : ℕ → ℕ) (t : ℕ) (edges : List Edge)
     → weighted_sum (λ s. v s * t) edges ≡ weighted_sum v edges * t
-sum-multiple v t [] = omega arith
-sum-multiple v t (e ∷ es) =
-    rw (
-      sum_by-cons (λ (f : Edge). f.weight * (v f.to * t)) e es,
-      sum_by-cons (λ (f : Edge). f.weight * v f.to) e es,
-      sum-multiple v t es,
-    )
-    (omega arith)
+sum-multiple v t edges = omega (
+  arith,
+  sums-same (λ s. v s * t) (λ s. v s * t + 0) edges (λ i e l. omega arith),
+  sum-affine v t 0 edges,
+)
 
-pub sum-constant : (c : ℕ) (edges : List Edge) → weighted_sum (λ s. c) edges ≡ weight edges * c
-sum-constant c [] = omega arith
-sum-constant c (e ∷ es) =
-    rw (sum_by-cons (λ (f : Edge). f.weight * c) e es, sum_by-cons (λ (f : Edge). f.weight) e es, sum-constant c es)
-    (omega arith)
+-- a factor of what is greater than a number is positive
+pub factor-pos : (x t n : ℕ) → n < x * t → 0 < x
+factor-pos zero t n more = absurd (omega (arith, more))
+factor-pos (suc x) t n more = omega arith

@@ -1,17 +1,18 @@
 -- Every question has exact values: state after state, its choices are split into single ones.
-use Rattle.std.proofs.Common.{◌≡◌, ℕ, zero, suc, ◌*◌, ◌<◌, ◌≤◌, false, List, [], ◌∷◌, length, arith, refl, sym, ap}
+use Rattle.std.proofs.Common.{◌≡◌, ℕ, zero, suc, ◌*◌, ◌<◌, ◌≤◌, List, [], ◌∷◌, length, arith, refl, sym, ap}
 use Rattle.std.proofs.Common.{subst, inl, inr, ◌⊎◌, ◌∙◌}
 use Rattle.std.specs.List.{All}
 use Rattle.std.proofs.lemmas.List.Elements.{All-cons, All-head, All-tail}
-use Rattle.std.proofs.lemmas.Bool.{cases_lt, cases_eq, cases_Bool}
+use Rattle.std.proofs.lemmas.Bool.{cases_lt, cases_eq}
 use Rattle.game_model.specs.declared.game.Side.{Side}
 use Rattle.game_model.specs.declared.game.Side.TheVariants.{Max, Min}
 use Rattle.game_model.specs.Game.{Distribution, no_distribution}
-use Rattle.game_model.specs.Query.{Query, states, is_goal, is_dead, side_at}
+use Rattle.game_model.specs.Query.{Query, states, side_at}
 use Rattle.game_model.specs.Values.{weighted_sum}
 use Rattle.exact_values.proofs.Descent.{Fits, Held, Enough}
 use Rattle.exact_values.proofs.Arena.{Some, All-single, Free, SolvedAt, FitAll, Solves, RankedAt, Exact, Stays}
-use Rattle.exact_values.proofs.Arena.{CaughtAt}
+use Rattle.exact_values.proofs.Arena.{CaughtAt, with_at, at-here, at-off}
+use Rattle.exact_values.proofs.Decided.{dec-free}
 use Rattle.exact_values.proofs.Layers.{ranks-of}
 use Rattle.exact_values.proofs.Splits.{max-both, min-both}
 use Rattle.exact_values.proofs.Chains.{Chain, Solution, solution}
@@ -86,23 +87,6 @@ module _ (q : Query) (m : ℕ → Distribution) (fit : FitAll q (λ s. m s ∷ [
   single-exact = one-exact (solution q (states q) m as-chain)
 
 -- 2. More choices at one state.
-with_at : (ℕ → List Distribution) → ℕ → List Distribution → ℕ → List Distribution
-with_at c j ms s = elim (cases_eq s j) [ inl _ ↦ ms | inr _ ↦ c s ]
-
-at-here : (c : ℕ → List Distribution) (j : ℕ) (ms : List Distribution) (s : ℕ) → s ≡ j → with_at c j ms s ≡ ms
-unfolding with_at
-at-here c j ms s same = elim (cases_eq s j) as (λ e. elim e [ inl _ ↦ ms | inr _ ↦ c s ] ≡ ms) [
-  | inl _ ↦ refl
-  | inr other ↦ absurd (other same)
-]
-
-at-off : (c : ℕ → List Distribution) (j : ℕ) (ms : List Distribution) (s : ℕ) → (s ≡ j → ⊥) → with_at c j ms s ≡ c s
-unfolding with_at
-at-off c j ms s other = elim (cases_eq s j) as (λ e. elim e [ inl _ ↦ ms | inr _ ↦ c s ] ≡ c s) [
-  | inl same ↦ absurd (other same)
-  | inr _ ↦ refl
-]
-
 fit-at : (q : Query) (c : ℕ → List Distribution) (j : ℕ) (ms : List Distribution) → FitAll q c
     → All (Fits (states q)) ms → FitAll q (with_at c j ms)
 fit-at q c j ms fit fits s inside = elim (cases_eq s j) [
@@ -250,14 +234,9 @@ exact-from q zero c fit some single =
     (first-fits q (c s) (some s inside) (fit s inside))))
 exact-from q (suc j) c fit some single = elim (cases_lt j (states q)) [
   | inr past ↦ exact-from q j c fit some (λ s inside from. absurd (omega (arith, inside, past, from)))
-  | inl inside ↦ elim (cases_Bool (is_goal q j)) [
-    | inl goal ↦ over-state q c j fit some single inside
-        (λ free. absurd (let no : is_goal q j ≡ false = free.0 in cc)) (exact-from q j)
-    | inr other ↦ elim (cases_Bool (is_dead q j)) [
-      | inl dead ↦ over-state q c j fit some single inside
-          (λ free. absurd (let no : is_dead q j ≡ false = free.1 in cc)) (exact-from q j)
-      | inr alive ↦ at-state q c j fit some single inside (other, alive) (exact-from q j) (c j) refl
-    ]
+  | inl inside ↦ elim (dec-free q j) [
+    | inr over ↦ over-state q c j fit some single inside over (exact-from q j)
+    | inl free ↦ at-state q c j fit some single inside free (exact-from q j) (c j) refl
   ]
 ]
 

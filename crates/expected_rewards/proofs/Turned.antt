@@ -16,6 +16,8 @@ use Rattle.game_model.specs.Dual.{other_side}
 use Rattle.game_model.proofs.Choices.{IsChoiceOf, IsChoiceOf-choice_of}
 use Rattle.strategies.specs.Strategies.{Turn, Strategy, IsStrategyOf, of_side, worth, reach, by_plan, ReachesAgainstAll}
 use Rattle.strategies.proofs.Plans.{by_plan-inside}
+use Rattle.strategies.proofs.Sums.{sum-same}
+use Rattle.strategies.proofs.Ways.{worth-same}
 use Rattle.strategies.proofs.Turns.{worth-le, of_side-inside}
 use Rattle.expected_rewards.specs.Turned.{turned}
 use Rattle.expected_rewards.specs.Tables.{is_finite}
@@ -51,21 +53,6 @@ of-other : (side : Side) (a b : Strategy) (past : List Turn) (s throw : ℕ)
     → of_side (other_side side) a b past s throw ≡ of_side side b a past s throw
 of-other Max a b past s throw = refl
 of-other Min a b past s throw = refl
-
-both-ways : (x y : ℕ) → 1 * x ≤ 1 * y → 1 * y ≤ 1 * x → x ≡ y
-both-ways x y h k = omega (arith, h, k)
-
-pub worth-same : (q : Query) (v w : ℕ → ℕ) (m : Distribution) → IsChoiceOf q.game m → ((t : ℕ) → t < states q → v t
-    ≡ w t)
-    → worth q v m ≡ worth q w m
-worth-same q v w m fits h =
-    both-ways (worth q v m) (worth q w m)
-    (worth-le q v w 1 1 m fits (λ t inside. omega (arith, h t inside)))
-    (worth-le q w v 1 1 m fits (λ t inside. omega (arith, h t inside)))
-
-sum-same : (f g : ℕ → ℕ) (xs : List ℕ) → ((x : ℕ) → f x ≡ g x) → sum_by f xs ≡ sum_by g xs
-sum-same f g [] h = refl
-sum-same f g (x ∷ xs) h = rw (sum_by-cons f x xs, sum_by-cons g x xs, h x, sum-same f g xs h) refl
 
 module _ (q : Query) (posed : IsQuery q) (faces : ℕ) (greatest least : Strategy) (up : IsStrategyOf q Max greatest)
     (down : IsStrategyOf q Min least) where

@@ -1,3 +1,4 @@
+pub mod Sums
 pub mod Turns
 pub mod Bounds
 pub mod Best
