@@ -1,24 +1,23 @@
 -- What is reached where the sides are exchanged.
 use Rattle.std.proofs.Common.{◌≡◌, ℕ, zero, suc, ◌+◌, ◌*◌, ◌^◌, ◌<◌, ◌≤◌, Bool, true, List, [], ◌∷◌}
-use Rattle.std.proofs.Common.{sum_by, arith, refl, sym, ◌∙◌, ap, subst, Option}
+use Rattle.std.proofs.Common.{arith, refl, sym, ◌∙◌, ap, subst, Option}
 use Rattle.std.specs.Bool.{if◌then◌else◌}
 use Rattle.std.specs.List.{range_with_len}
 use Rattle.std.proofs.Math.Nat.{le_of_mul-le-mul_left}
 use Rattle.std.proofs.lemmas.List.{get_or-map, length-map}
-use Rattle.std.proofs.lemmas.List.Sums.{sum_by-cons}
 use Rattle.game_model.specs.declared.game.Side.{Side}
 use Rattle.game_model.specs.declared.game.Side.TheVariants.{Max, Min}
-use Rattle.game_model.specs.Game.{Distribution, choice_of}
+use Rattle.game_model.specs.Game.{choice_of}
 use Rattle.game_model.specs.Limits.{unit}
 use Rattle.game_model.specs.Query.{Query, IsQuery, states, is_goal, is_dead, side_at}
 use Rattle.game_model.specs.Values.{denominator}
 use Rattle.game_model.specs.Dual.{other_side}
-use Rattle.game_model.proofs.Choices.{IsChoiceOf, IsChoiceOf-choice_of}
+use Rattle.game_model.proofs.Choices.{IsChoiceOf-choice_of}
 use Rattle.strategies.specs.Strategies.{Turn, Strategy, IsStrategyOf, of_side, worth, reach, by_plan, ReachesAgainstAll}
 use Rattle.strategies.proofs.Plans.{by_plan-inside}
 use Rattle.strategies.proofs.Sums.{sum-same}
 use Rattle.strategies.proofs.Ways.{worth-same}
-use Rattle.strategies.proofs.Turns.{worth-le, of_side-inside}
+use Rattle.strategies.proofs.Turns.{of_side-inside}
 use Rattle.expected_rewards.specs.Turned.{turned}
 use Rattle.expected_rewards.specs.Tables.{is_finite}
 use Rattle.expected_rewards.specs.Promises.{EndsSurely}
