@@ -1,5 +1,5 @@
 -- Sums over lists.
-use Rattle.std.proofs.Common.{◌≡◌, ℕ, ◌*◌, List, [], ◌∷◌, length, map, sum_by, arith, refl, sym, ◌∙◌, ap, ◌+◌}
+use Rattle.std.proofs.Common.{◌≡◌, ℕ, ◌*◌, ◌≤◌, List, [], ◌∷◌, length, map, sum_by, arith, refl, sym, ◌∙◌, ap, ◌+◌}
 use Rattle.std.specs.Prelude.{flat_map}
 use Rattle.std.specs.List.{range_with_len}
 use Rattle.std.proofs.lemmas.List.Sums.{sum_by-cons, sum_by-append}
@@ -47,3 +47,9 @@ weighted-constant c (e ∷ edges) = rw (
   sum_by-cons (λ (d : Edge). d.weight) e edges,
   weighted-constant c edges,
 ) (omega arith)
+
+-- of multiples in order
+pub sum-scaled : (a b : ℕ) (f g : ℕ → ℕ) (xs : List ℕ) → ((x : ℕ) → a * f x ≤ b * g x) → a * sum_by f xs ≤ b * sum_by g xs
+sum-scaled a b f g [] h = omega arith
+sum-scaled a b f g (x ∷ xs) h =
+    rw (sum_by-cons f x xs, sum_by-cons g x xs) (omega (arith, sum-scaled a b f g xs h, h x))
