@@ -49,7 +49,8 @@ weighted-constant c (e ∷ edges) = rw (
 ) (omega arith)
 
 -- of multiples in order
-pub sum-scaled : (a b : ℕ) (f g : ℕ → ℕ) (xs : List ℕ) → ((x : ℕ) → a * f x ≤ b * g x) → a * sum_by f xs ≤ b * sum_by g xs
+pub sum-scaled : (a b : ℕ) (f g : ℕ → ℕ) (xs : List ℕ) → ((x : ℕ) → a * f x ≤ b * g x)
+    → a * sum_by f xs ≤ b * sum_by g xs
 sum-scaled a b f g [] h = omega arith
 sum-scaled a b f g (x ∷ xs) h =
     rw (sum_by-cons f x xs, sum_by-cons g x xs) (omega (arith, sum-scaled a b f g xs h, h x))
