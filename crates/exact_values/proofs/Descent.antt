@@ -1,20 +1,18 @@
 -- Two tables are compared along the ranks of one.
 use Rattle.std.proofs.Common.{◌≡◌, ℕ, zero, suc, ◌+◌, ◌-◌, ◌*◌, ◌<◌, ◌≤◌, length, get_or, arith, ap, inl, inr, ◌⊎◌}
-use Rattle.std.specs.List.{AllByRecursion}
+use Rattle.std.specs.List.{All}
 use Rattle.std.proofs.lemmas.Bool.{cases_lt}
 use Rattle.std.proofs.Math.Nat.{mul-le-mul_right}
-use Rattle.game_model.specs.declared.game.Edge.{Edge}
 use Rattle.game_model.specs.Game.{Distribution, no_edge}
 use Rattle.game_model.specs.Values.{weighted_sum}
-use Rattle.game_model.proofs.Each.{AllByRecursion-weaker, AllByRecursion-at}
 use Rattle.exact_values.proofs.Sums.{weight, tight, sum-affine, sum-multiple}
 
 -- what a choice keeps: weights that are at most the total together
 pub record Fits (n : ℕ) (m : Distribution) : Type 0 where
   pub positive : 0 < m.total
-  pub weights : AllByRecursion (λ e. 1 ≤ e.weight) m.edges
+  pub weights : All (λ e. 1 ≤ e.weight) m.edges
   pub few : weight m.edges ≤ m.total
-  pub inside : AllByRecursion (λ e. e.to < n) m.edges
+  pub inside : All (λ e. e.to < n) m.edges
 
 abbrev pub Held : (ℕ → ℕ) → ℕ → Distribution → Type 0
 Held v s m = weighted_sum v m.edges ≤ v s * m.total
@@ -82,10 +80,10 @@ shares v v' t t' x x' d w tot same enough held few =
 -- table and held by the other
 pub same-difference : (n : ℕ) (v v' : ℕ → ℕ) (t t' d : ℕ) → ((y : ℕ) → y < n → v y * t' ≤ v' y * t + d)
     → (s : ℕ) (m : Distribution) → Fits n m → v s * t' ≡ v' s * t + d → Enough v s m → Held v' s m
-    → AllByRecursion (λ e. v e.to * t' ≡ v' e.to * t + d) m.edges
+    → All (λ e. v e.to * t' ≡ v' e.to * t + d) m.edges
 same-difference n v v' t t' d most s m fits same enough held =
     tight (λ y. v y * t') (λ y. v' y * t + d) m.edges fits.weights
-    (AllByRecursion-weaker (λ (e : Edge). e.to < n) _ (λ e inside. most e.to inside) m.edges fits.inside)
+    (λ i e l. most _ (fits.inside i e l))
     (rw (sum-affine v' t d m.edges, sum-multiple v t' m.edges)
     (shares (v s) (v' s) t t' (weighted_sum v m.edges) (weighted_sum v' m.edges) d
     (weight m.edges) m.total same enough held fits.few))
@@ -101,27 +99,18 @@ pub record Meets (n : ℕ) (v rank v' : ℕ → ℕ) (s : ℕ) : Type 0 where
 -- one table is above the other by at most d, if such a choice is at each state where it would be more
 module _ (n : ℕ) (v rank v' : ℕ → ℕ) (t t' d : ℕ) (most : (y : ℕ) → y < n → v y ≤ t)
     (step : (y : ℕ) → y < n → v' y * t + d < v y * t' → Meets n v rank v' y) where
-  difference : ℕ → ℕ
-  difference y = v y * t' - v' y * t
-
-  gap : ℕ → Type 0
-  gap e = (y : ℕ) → y < n → v y * t' ≤ v' y * t + e
-
   no-more : (e : ℕ) → d < e → ((y : ℕ) → y < n → v y * t' ≤ v' y * t + e) → (x : ℕ) → x < n
       → v x * t' ≡ v' x * t + e → ⊥
   no-more e more all x inside same =
       nowhere v rank t (λ y. (y < n) × (v y * t' ≡ v' y * t + e)) (λ y h. most y h.0)
       (λ y h.
       let at : Meets n v rank v' y = step y h.0 (omega (arith, h.1, more)) in
-      let equal = same-difference n v v' t t' e all y at.choice at.fits h.1 at.enough at.held in
-      let to : ℕ = (get_or at.choice.edges at.onward.place no_edge).to in (
+      let equal = same-difference n v v' t t' e all y at.choice at.fits h.1 at.enough at.held in (
         (get_or at.choice.edges at.onward.place no_edge).to,
         (
           (
-            AllByRecursion-at (λ (e : Edge). e.to < n) at.choice.edges at.onward.place no_edge
-                at.onward.within at.fits.inside,
-            AllByRecursion-at (λ (f : Edge). v f.to * t' ≡ v' f.to * t + e) at.choice.edges at.onward.place no_edge
-                at.onward.within equal,
+            at.fits.inside at.onward.place no_edge at.onward.within,
+            equal at.onward.place no_edge at.onward.within,
           ),
           at.onward.further,
         ),

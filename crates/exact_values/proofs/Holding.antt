@@ -12,7 +12,6 @@ use Rattle.game_model.specs.Game.{Distribution, no_distribution, choices_of, cho
 use Rattle.game_model.specs.Query.{Query, IsQuery, states, is_goal, is_dead, side_at}
 use Rattle.game_model.specs.Values.{weighted_sum, denominator}
 use Rattle.game_model.specs.Plans.{planned_place}
-use Rattle.game_model.proofs.Each.{AllByRecursion-at}
 use Rattle.game_model.proofs.Choices.{IsChoiceOf, IsChoiceOf-choice_of}
 use Rattle.game_laws.proofs.Planned.{planned_place-given}
 use Rattle.strategies.specs.Strategies.{Turn, Strategy, IsStrategyOf, of_side, worth, reach, by_plan}
@@ -56,8 +55,7 @@ module _ (q : Query) (posed : IsQuery q) (a : Exact q (choices_of q.game)) where
     held-choice past s throw inside free Max is =
         let solved : SolvedAt Max a.value s (choices_of q.game s) =
         subst (λ side. SolvedAt side a.value s (choices_of q.game s)) is (a.solves.solved s inside free) in
-        AllByRecursion-at (Held a.value s) (choices_of q.game s) (opponent past s throw) no_distribution
-        (up past s throw inside is) solved.0
+        solved.0 (opponent past s throw) no_distribution (up past s throw inside is)
     held-choice past s throw inside free Min is =
         let answer = (answering q posed a s (side_at q s) refl).1 inside free is in
         let place : planned_place (replies q posed a) s (length (choices_of q.game s))

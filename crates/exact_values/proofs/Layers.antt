@@ -1,21 +1,21 @@
 -- A table that solves the equations has ranks, or there is a trap.
-use Rattle.std.proofs.Common.{◌≡◌, ℕ, zero, suc, ◌+◌, ◌-◌, ◌*◌, ◌<◌, ◌≤◌, List, [], ◌∷◌, length, get_or, arith, refl}
+use Rattle.std.proofs.Common.{◌≡◌, ℕ, zero, suc, ◌+◌, ◌-◌, ◌*◌, ◌<◌, ◌≤◌, List, get_or, arith, refl}
 use Rattle.std.proofs.Common.{subst, inl, inr, ◌⊎◌}
-use Rattle.std.specs.List.{AllByRecursion}
+use Rattle.std.specs.List.{All}
 use Rattle.std.proofs.lemmas.Bool.{cases_lt}
 use Rattle.std.proofs.Math.Nat.{mul-le-mul_right}
 use Rattle.game_model.specs.declared.game.Edge.{Edge}
 use Rattle.game_model.specs.declared.game.Side.{Side}
 use Rattle.game_model.specs.declared.game.Side.TheVariants.{Max, Min}
 use Rattle.game_model.specs.Game.{Distribution, no_edge}
-use Rattle.game_model.specs.Query.{Query, states, is_goal, is_dead, side_at}
+use Rattle.game_model.specs.Query.{Query, states, side_at}
 use Rattle.game_model.specs.Values.{weighted_sum}
-use Rattle.game_model.proofs.Each.{AllByRecursion-weaker, AllByRecursion-both}
-use Rattle.exact_values.proofs.Sums.{tight, sum-constant}
-use Rattle.exact_values.proofs.Descent.{Fits, Enough, Further, Onward}
-use Rattle.exact_values.proofs.Arena.{Some, Some-weaker, SolvedAt, FitAll, Solves, Needs, RankedAt, Ranks, Stays}
-use Rattle.exact_values.proofs.Arena.{CaughtAt, Trap}
-use Rattle.exact_values.proofs.Decided.{Decided, dec-all, dec-both, dec-either, dec-eq, dec-false, dec-le, dec-lt}
+use Rattle.strategies.proofs.Sums.{weighted-constant}
+use Rattle.exact_values.proofs.Sums.{tight}
+use Rattle.exact_values.proofs.Descent.{Fits, Enough, Onward}
+use Rattle.exact_values.proofs.Arena.{Some, Some-weaker, Some-place, Some-both, SolvedAt, FitAll, Solves, Needs}
+use Rattle.exact_values.proofs.Arena.{RankedAt, Ranks, Stays, CaughtAt, Trap}
+use Rattle.exact_values.proofs.Decided.{Decided, dec-all, dec-both, dec-either, dec-eq, dec-free, dec-le, dec-lt}
 use Rattle.exact_values.proofs.Decided.{dec-not, dec-some, not-all, none-all, tally, tally-more, tally-most}
 
 module _ (q : Query) (choices : ℕ → List Distribution) (v : ℕ → ℕ) where
@@ -25,7 +25,7 @@ module _ (q : Query) (choices : ℕ → List Distribution) (v : ℕ → ℕ) whe
 
   abbrev Leads : Side → (ℕ → Type 0) → ℕ → List Distribution → Type 0
   Leads Max A s ms = Some (λ m. Enough v s m × Into A s m) ms
-  Leads Min A s ms = AllByRecursion (Into A s) ms
+  Leads Min A s ms = All (Into A s) ms
 
   abbrev Layer : ℕ → ℕ → Type 0
   Layer zero s = Needs q v s → ⊥
@@ -33,7 +33,7 @@ module _ (q : Query) (choices : ℕ → List Distribution) (v : ℕ → ℕ) whe
 
   pub dec-needs : (s : ℕ) → Decided (Needs q v s)
   dec-needs s = elim (dec-both _ _ (dec-lt s (states q))
-      (dec-both _ _ (dec-both _ _ (dec-false (is_goal q s)) (dec-false (is_dead q s))) (dec-lt 0 (v s)))) [
+      (dec-both _ _ (dec-free q s) (dec-lt 0 (v s)))) [
         | inl h ↦ inl (record { inside = h.0; free = h.1.0; some = h.1.1 })
         | inr h ↦ inr (λ n. h (n.inside, (n.free, n.some)))
       ]
@@ -99,34 +99,27 @@ module _ (q : Query) (choices : ℕ → List Distribution) (v : ℕ → ℕ) whe
     | inr none ↦ (0, ((λ h. absurd (none h)), λ j there. omega arith))
   ]
 
-  -- an edge of a list, by its place
-  edge-place : (A : ℕ → Type 0) (rank : ℕ → ℕ) (s r : ℕ) (edges : List Edge) → ((t : ℕ) → A t → rank t < rank s)
-      → Some (λ (e : Edge). (v s < v e.to) ⊎ ((v e.to ≡ v s) × A e.to)) edges
-      → (i : ℕ) × (i < length edges) × Further v rank s (get_or edges i no_edge).to
-  edge-place A rank s r [] lower h = absurd h
-  edge-place A rank s r (e ∷ es) lower (inl (inl greater)) = (0, omega arith, inl greater)
-  edge-place A rank s r (e ∷ es) lower (inl (inr equal)) = (0, omega arith, inr (equal.0, lower e.to equal.1))
-  edge-place A rank s r (e ∷ es) lower (inr later) =
-      let rest = edge-place A rank s r es lower later in
-      (suc rest.0, omega (arith, rest.1), rest.2)
-
   into-onward : (A : ℕ → Type 0) (rank : ℕ → ℕ) (s : ℕ) (m : Distribution) → ((t : ℕ) → A t → rank t < rank s)
       → Into A s m → Onward v rank s m
   into-onward A rank s m lower h =
-      let at = edge-place A rank s 0 m.edges lower h in
-      record { place = at.0; within = at.1; further = at.2 }
+      let at = Some-place (λ (e : Edge). (v s < v e.to) ⊎ ((v e.to ≡ v s) × A e.to)) m.edges no_edge h in
+      record {
+        place = at.0;
+        within = at.1.0;
+        further = elim at.1.1 [ inl greater ↦ inl greater | inr equal ↦ inr (equal.0, lower _ equal.1) ];
+      }
 
   leads-ranked : (A : ℕ → Type 0) (rank : ℕ → ℕ) (s : ℕ) (side : Side) (ms : List Distribution)
       → ((t : ℕ) → A t → rank t < rank s) → Leads side A s ms → RankedAt side v rank s ms
   leads-ranked A rank s Max ms lower h = Some-weaker _ _ (λ m both. (both.0, into-onward A rank s m lower both.1)) ms h
-  leads-ranked A rank s Min ms lower h = AllByRecursion-weaker _ _ (λ m into. into-onward A rank s m lower into) ms h
+  leads-ranked A rank s Min ms lower h = λ i m l. into-onward A rank s _ lower (h i m l)
 
 -- nothing is greater, and all are given: all have one value
 all-equal : (n : ℕ) (v : ℕ → ℕ) (s : ℕ) (m : Distribution) → Fits n m → Enough v s m
-    → AllByRecursion (λ e. v e.to ≤ v s) m.edges → AllByRecursion (λ e. v e.to ≡ v s) m.edges
+    → All (λ e. v e.to ≤ v s) m.edges → All (λ e. v e.to ≡ v s) m.edges
 all-equal n v s m fits enough most =
     tight v (λ t. v s) m.edges fits.weights most
-    (rw (sum-constant (v s) m.edges) (omega (arith, enough, mul-le-mul_right (v s) fits.few)))
+    (rw (weighted-constant (v s) m.edges) (omega (arith, enough, mul-le-mul_right (v s) fits.few)))
 
 module _ (q : Query) (choices : ℕ → List Distribution) (fit : FitAll q choices) (t : ℕ) (v : ℕ → ℕ)
     (solves : Solves q choices t v) where
@@ -147,33 +140,25 @@ module _ (q : Query) (choices : ℕ → List Distribution) (fit : FitAll q choic
   stays : (k s : ℕ) (m : Distribution) → Fits (states q) m → Enough v s m → (Into q choices v (L k) s m → ⊥)
       → Stays (λ x. L k x → ⊥) v s m
   stays k s m fits enough none =
-      let nowhere : AllByRecursion (λ (e : Edge). ((v s < v e.to) ⊎ ((v e.to ≡ v s) × L k e.to)) → ⊥) m.edges =
+      let nowhere : All (λ (e : Edge). ((v s < v e.to) ⊎ ((v e.to ≡ v s) × L k e.to)) → ⊥) m.edges =
       none-all (λ (e : Edge). (v s < v e.to) ⊎ ((v e.to ≡ v s) × L k e.to)) m.edges none in
-      let equal : AllByRecursion (λ (e : Edge). v e.to ≡ v s) m.edges =
+      let equal : All (λ (e : Edge). v e.to ≡ v s) m.edges =
       all-equal (states q) v s m fits enough
-      (AllByRecursion-weaker (λ (e : Edge). ((v s < v e.to) ⊎ ((v e.to ≡ v s) × L k e.to)) → ⊥) _
-      (λ e h. elim (cases_lt (v s) (v e.to)) [ inl more ↦ absurd (h (inl more)) | inr few ↦ few ]) m.edges nowhere) in
-      AllByRecursion-weaker (λ (e : Edge). (v e.to ≡ v s) × (((v s < v e.to) ⊎ ((v e.to ≡ v s) × L k e.to)) → ⊥)) _
-      (λ e both. ((λ there. both.1 (inr (both.0, there))), both.0)) m.edges
-      (AllByRecursion-both (λ (e : Edge). v e.to ≡ v s)
-      (λ (e : Edge). ((v s < v e.to) ⊎ ((v e.to ≡ v s) × L k e.to)) → ⊥) m.edges equal nowhere)
+      (λ i e l. elim (cases_lt (v s) (v (get_or m.edges i e).to)) [
+        | inl more ↦ absurd (nowhere i e l (inl more))
+        | inr few ↦ few
+      ]) in
+      λ i e l. ((λ there. nowhere i e l (inr (equal i e l, there))), equal i e l)
 
-  caught : (k s : ℕ) (side : Side) (ms : List Distribution) → AllByRecursion (Fits (states q)) ms → SolvedAt side v s ms
+  caught : (k s : ℕ) (side : Side) (ms : List Distribution) → All (Fits (states q)) ms → SolvedAt side v s ms
       → (Leads q choices v side (L k) s ms → ⊥) → CaughtAt side (λ x. L k x → ⊥) v s ms
   caught k s Max ms fits solved none =
-      AllByRecursion-weaker (λ m. Fits (states q) m × ((Enough v s m × Into q choices v (L k) s m) → ⊥)) _
-      (λ m both enough. stays k s m both.0 enough (λ into. both.1 (enough, into))) ms
-      (AllByRecursion-both (Fits (states q)) (λ m. (Enough v s m × Into q choices v (L k) s m) → ⊥) ms fits
-      (none-all (λ m. Enough v s m × Into q choices v (L k) s m) ms none))
+      λ i m l enough. stays k s _ (fits i m l) enough
+      (λ into. none-all (λ m. Enough v s m × Into q choices v (L k) s m) ms none i m l (enough, into))
   caught k s Min ms fits solved none =
-      some-caught k s ms (AllByRecursion-both (Fits (states q)) (Enough v s) ms fits solved.0)
+      Some-both (λ m. Fits (states q) m × Enough v s m) (λ m. Into q choices v (L k) s m → ⊥)
+      (Stays (λ x. L k x → ⊥) v s) (λ m both. stays k s m both.0 both.1) ms (λ i m l. (fits i m l, solved.0 i m l))
       (not-all (Into q choices v (L k) s) (dec-into q choices v (L k) (dec-layer q choices v k) s) ms none)
-    where
-      some-caught : (k s : ℕ) (ms : List Distribution) → AllByRecursion (λ m. Fits (states q) m × Enough v s m) ms
-          → Some (λ m. Into q choices v (L k) s m → ⊥) ms → Some (Stays (λ x. L k x → ⊥) v s) ms
-      some-caught k s [] both h = absurd h
-      some-caught k s (m ∷ ms) both (inl here) = inl (stays k s m both.0.0 both.0.1 here)
-      some-caught k s (m ∷ ms) both (inr more) = inr (some-caught k s ms both.1 more)
 
   trap-left : Trap q choices v Left
   trap-left = record {

@@ -11,3 +11,4 @@ pub mod Holding
 pub mod Bracketing
 pub mod Deciding
 pub mod Zeros
+mod Thirds

@@ -1,10 +1,11 @@
 -- The plans of exact values.
-use Rattle.std.proofs.Common.{◌≡◌, ℕ, suc, ◌+◌, ◌*◌, ◌^◌, ◌<◌, ◌≤◌, ◌⊎◌, Bool, true, false, List, [], ◌∷◌, length, map}
+use Rattle.std.proofs.Common.{◌≡◌, ℕ, ◌+◌, ◌*◌, ◌^◌, ◌<◌, ◌≤◌, Bool, true, false, List, [], length, map}
 use Rattle.std.proofs.Common.{take, drop, sum, get_or, arith, refl, sym, subst, inl, inr, ◌∙◌, Option, Some, None}
 use Rattle.std.specs.Prelude.{slice_index, slice_index_or}
 use Rattle.std.specs.List.{AllByRecursion, range_with_len}
 use Rattle.std.specs.Bool.{if◌then◌else◌}
 use Rattle.std.proofs.lemmas.Bool.{cases_lt}
+use Rattle.std.proofs.lemmas.List.Elements.{All-from_recursion, recursion_from_All, All-from_get_or}
 use Rattle.std.proofs.lemmas.List.FromFn.{get_or-map-range_with_len}
 use Rattle.std.proofs.Math.Nat.{mul-le-mul_left}
 use Rattle.game_model.specs.declared.game.Edge.{Edge}
@@ -15,8 +16,7 @@ use Rattle.game_model.specs.Query.{Query, IsQuery, states, is_goal, is_dead, sid
 use Rattle.game_model.specs.Values.{denominator}
 use Rattle.game_model.specs.Plans.{planned, planned_place, same_side, numerator_under}
 use Rattle.game_model.specs.Ranks.{IsRankedChoice}
-use Rattle.game_model.proofs.Each.{AllByRecursion-weaker, AllByRecursion-at}
-use Rattle.game_model.proofs.Choices.{IsChoiceOf, IsChoiceOf-choice_of, AreChoicesOf-choices_of, AreChoicesOf-planned}
+use Rattle.game_model.proofs.Choices.{IsChoiceOf, IsChoiceOf-choice_of, AreChoicesOf-planned}
 use Rattle.game_model.proofs.Choices.{denominator-pos}
 use Rattle.game_laws.proofs.Planned.{one-at, planned_place-given, rank-most}
 use Rattle.game_laws.proofs.Horizon.{Certified, certified-reached}
@@ -24,29 +24,26 @@ use Rattle.strategies.specs.Strategies.{Strategy, IsStrategyOf, reach, by_plan}
 use Rattle.strategies.proofs.Turns.{pow-product}
 use Rattle.strategies.proofs.Plans.{plan-least}
 use Rattle.exact_values.proofs.Descent.{Fits, Held, Enough, Onward}
-use Rattle.exact_values.proofs.Arena.{Free, SolvedAt, FitAll, Solves, Needs, RankedAt, Ranks, Exact}
-use Rattle.exact_values.proofs.Arena as arena
+use Rattle.exact_values.proofs.Arena.{Free, Some-place, SolvedAt, FitAll, Needs, RankedAt, Exact}
+use Rattle.exact_values.proofs.Decided.{dec-free}
 use Rattle.exact_values.proofs.Layers.{dec-needs}
 use Rattle.exact_values.proofs.Values.{exact-values}
 
 fits-of : (game : List (List Distribution)) (m : Distribution) → IsChoiceOf game m → Fits (length game) m
-fits-of game m h = record { positive = h.positive; weights = h.weights; few = omega (arith, h.sums); inside = h.inside }
+fits-of game m h = record {
+  positive = h.positive;
+  weights = All-from_recursion (λ (e : Edge). 1 ≤ e.weight) m.edges h.weights;
+  few = omega (arith, h.sums);
+  inside = All-from_recursion (λ (e : Edge). e.to < length game) m.edges h.inside;
+}
+
+fit-choices : (q : Query) → IsQuery q → FitAll q (choices_of q.game)
+fit-choices q posed s inside = All-from_get_or (Fits (states q)) (choices_of q.game s) no_distribution
+    (λ c within. fits-of q.game (choice_of q.game s c) (IsChoiceOf-choice_of q.game s c posed.game inside within))
 
 -- every question has them
 pub exact-of : (q : Query) → IsQuery q → Exact q (choices_of q.game)
-exact-of q posed =
-    let all = AreChoicesOf-choices_of q.game posed.game in
-    exact-values q (choices_of q.game) (λ s inside.
-    AllByRecursion-weaker (IsChoiceOf q.game) _ (fits-of q.game) (choices_of q.game s) (all.each s)) all.some
-
--- an element with a fact, by its place
-some-place : {X : Type 0} (P : X → Type 0) (xs : List X) (d : X) → arena.Some P xs
-    → (c : ℕ) × ((c < length xs) × P (get_or xs c d))
-some-place P [] d h = absurd h
-some-place P (x ∷ xs) d (inl here) = (0, (omega arith, here))
-some-place P (x ∷ xs) d (inr later) =
-    let rest = some-place P xs d later in
-    (suc rest.0, (omega (arith, rest.1.0), rest.1.1))
+exact-of q posed = exact-values q (choices_of q.game) (fit-choices q posed) posed.game.chosen
 
 module _ (q : Query) (posed : IsQuery q) (a : Exact q (choices_of q.game)) where
   abbrev pub ranks : List ℕ
@@ -70,16 +67,11 @@ module _ (q : Query) (posed : IsQuery q) (a : Exact q (choices_of q.game)) where
           arith,
           equal.1,
           rank-at s inside,
-          rank-at (get_or m.edges onward.place no_edge).to (AllByRecursion-at (λ (e : Edge). e.to < states q) m.edges
-              onward.place no_edge onward.within fits.inside),
+          rank-at (get_or m.edges onward.place no_edge).to (fits.inside onward.place no_edge onward.within),
         ),
       )
     ];
   }
-
-  fit-at : (s c : ℕ) → s < states q → c < length (choices_of q.game s) → Fits (states q) (choice_of q.game s c)
-  fit-at s c inside within =
-      fits-of q.game (choice_of q.game s c) (IsChoiceOf-choice_of q.game s c posed.game inside within)
 
   -- the choice of a state of the maximiser, and of one of the minimiser
   pub picking : (s : ℕ) (side : Side) → side_at q s ≡ side → (c : ℕ) × (Needs q a.value s → side_at q s ≡ Max
@@ -91,12 +83,13 @@ module _ (q : Query) (posed : IsQuery q) (a : Exact q (choices_of q.game)) where
         let ranked : RankedAt Max a.value a.rank s (choices_of q.game s) =
         subst (λ side. RankedAt side a.value a.rank s (choices_of q.game s)) is (a.ranks s needs) in
         let at =
-        some-place (λ m. Enough a.value s m × Onward a.value a.rank s m)
+        Some-place (λ m. Enough a.value s m × Onward a.value a.rank s m)
         (choices_of q.game s) no_distribution ranked in (
           at.0,
           λ _ _. (
             at.1.0,
-            as-ranked s needs.inside (choice_of q.game s at.0) (fit-at s at.0 needs.inside at.1.0) at.1.1.0 at.1.1.1,
+            as-ranked s needs.inside (choice_of q.game s at.0)
+                (fit-choices q posed s needs.inside at.0 no_distribution at.1.0) at.1.1.0 at.1.1.1,
           ),
         )
   ]
@@ -111,26 +104,17 @@ module _ (q : Query) (posed : IsQuery q) (a : Exact q (choices_of q.game)) where
   pub answering : (s : ℕ) (side : Side) → side_at q s ≡ side → (c : ℕ) × (s < states q → Free q s → side_at q s ≡ Min
       → (c < length (choices_of q.game s)) × Held a.value s (choice_of q.game s c))
   answering s Max is = (0, λ inside free min. absurd (let no : Max ≡ Min = sym is ∙ min in cc))
-  answering s Min is = answers (states q) refl
-    where
-      answers : (n : ℕ) → states q ≡ n → (c : ℕ) × (s < states q → Free q s → side_at q s ≡ Min
-          → (c < length (choices_of q.game s)) × Held a.value s (choice_of q.game s c))
-      answers n same = elim (cases_lt s (states q)) [
-        | inr past ↦ (0, λ inside free min. absurd (omega (arith, inside, past)))
-        | inl inside ↦ elim (cases_free (is_goal q s) (is_dead q s)) [
-          | inr over ↦ (0, λ _ free min. absurd (over free))
-          | inl free ↦
-              let solved : SolvedAt Min a.value s (choices_of q.game s) =
-              subst (λ side. SolvedAt side a.value s (choices_of q.game s)) is (a.solves.solved s inside free) in
-              let at = some-place (Held a.value s) (choices_of q.game s) no_distribution solved.1 in
-              (at.0, λ _ _ _. at.1)
-        ]
-      ]
-        where
-          cases_free : (goal dead : Bool) → ((goal ≡ false) × (dead ≡ false)) ⊎ ((goal ≡ false) × (dead ≡ false) → ⊥)
-          cases_free true dead = inr (λ h. absurd (let no : true ≡ false = h.0 in cc))
-          cases_free false true = inr (λ h. absurd (let no : true ≡ false = h.1 in cc))
-          cases_free false false = inl (refl, refl)
+  answering s Min is = elim (cases_lt s (states q)) [
+    | inr past ↦ (0, λ inside free min. absurd (omega (arith, inside, past)))
+    | inl inside ↦ elim (dec-free q s) [
+      | inr over ↦ (0, λ _ free min. absurd (over free))
+      | inl free ↦
+          let solved : SolvedAt Min a.value s (choices_of q.game s) =
+          subst (λ side. SolvedAt side a.value s (choices_of q.game s)) is (a.solves.solved s inside free) in
+          let at = Some-place (Held a.value s) (choices_of q.game s) no_distribution solved.1 in
+          (at.0, λ _ _ _. at.1)
+    ]
+  ]
 
   abbrev pub replies : List (Option ℕ)
   replies = map (λ s. Some (answering s (side_at q s) refl).0) (range_with_len 0 (states q))
@@ -153,19 +137,12 @@ module _ (q : Query) (posed : IsQuery q) (a : Exact q (choices_of q.game)) where
       (one-at (IsRankedChoice a.value (slice_index ranks) s) (choices_of q.game s)
       (picking s (side_at q s) refl).0 no_distribution pick.0 pick.1)
   all-ranked s inside needs Min is =
-      let all = AreChoicesOf-choices_of q.game posed.game in
       let solved : SolvedAt Min a.value s (choices_of q.game s) =
       subst (λ side. SolvedAt side a.value s (choices_of q.game s)) is (a.solves.solved s inside needs.free) in
       let ranked : RankedAt Min a.value a.rank s (choices_of q.game s) =
       subst (λ side. RankedAt side a.value a.rank s (choices_of q.game s)) is (a.ranks s needs) in
-      each (choices_of q.game s)
-      (AllByRecursion-weaker (IsChoiceOf q.game) _ (fits-of q.game) (choices_of q.game s) (all.each s)) solved.0 ranked
-    where
-      each : (ms : List Distribution) → AllByRecursion (Fits (states q)) ms
-          → AllByRecursion (Enough a.value s) ms → AllByRecursion (Onward a.value a.rank s) ms
-          → AllByRecursion (IsRankedChoice a.value (slice_index ranks) s) ms
-      each [] f e o = tt
-      each (m ∷ ms) f e o = (as-ranked s inside m f.0 e.0 o.0, each ms f.1 e.1 o.1)
+      recursion_from_All (IsRankedChoice a.value (slice_index ranks) s) (choices_of q.game s)
+      (λ c m l. as-ranked s inside _ (fit-choices q posed s inside c m l) (solved.0 c m l) (ranked c m l))
 
   dead-none : (s : ℕ) → s < states q → is_dead q s ≡ true → a.value s ≡ 0
   dead-none s inside dead = a.solves.deads s inside (no-goal (is_goal q s) (is_dead q s) (posed.apart s) dead) dead

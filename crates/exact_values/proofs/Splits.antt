@@ -1,21 +1,21 @@
 -- A question in which a state has two sets of choices together is solved by the better of the two.
 use Rattle.std.proofs.Common.{◌≡◌, ℕ, suc, ◌+◌, ◌-◌, ◌*◌, ◌<◌, ◌≤◌, List, [], ◌∷◌, length, get_or, arith, sym, ap}
 use Rattle.std.proofs.Common.{subst, inl, inr, ◌⊎◌, ◌∙◌}
-use Rattle.std.specs.List.{AllByRecursion}
+use Rattle.std.specs.List.{All}
 use Rattle.std.proofs.lemmas.Bool.{cases_lt, cases_eq, cases_Bool}
 use Rattle.std.proofs.lemmas.List.Sums.{sum_by-cons}
 use Rattle.std.proofs.Math.Nat.{mul-le-mul_left, mul-le-mul_right, le_of_mul-le-mul_left, mul-pos}
 use Rattle.game_model.specs.declared.game.Edge.{Edge}
 use Rattle.game_model.specs.declared.game.Side.{Side}
 use Rattle.game_model.specs.declared.game.Side.TheVariants.{Max, Min}
-use Rattle.game_model.specs.Game.{Distribution, no_edge}
+use Rattle.game_model.specs.Game.{Distribution, no_edge, no_distribution}
 use Rattle.game_model.specs.Query.{Query, states, is_goal, is_dead, side_at}
 use Rattle.game_model.specs.Values.{weighted_sum}
-use Rattle.game_model.proofs.Each.{AllByRecursion-weaker, AllByRecursion-at, AllByRecursion-both}
-use Rattle.exact_values.proofs.Sums.{weight, sums-in_order, sum-affine, sum-multiple, sum-constant}
+use Rattle.strategies.proofs.Sums.{weighted-constant}
+use Rattle.exact_values.proofs.Sums.{weight, sums-in_order, sum-affine, sum-multiple, factor-pos}
 use Rattle.exact_values.proofs.Descent.{Fits, Held, Enough, Further, Onward, Meets, nowhere, compared, same-difference}
-use Rattle.exact_values.proofs.Arena.{Some, Some-both, Free, SolvedAt, FitAll, Solves, Needs, RankedAt, Ranks, Exact}
-use Rattle.exact_values.proofs.Arena.{Stays, CaughtAt, Trap}
+use Rattle.exact_values.proofs.Arena.{Some, Some-place, Some-both, Free, SolvedAt, FitAll, Solves, Needs, RankedAt}
+use Rattle.exact_values.proofs.Arena.{Ranks, Exact, Stays, CaughtAt, Trap}
 use Rattle.exact_values.proofs.Layers.{ranks-of}
 
 -- some successor is greater where the average is
@@ -34,26 +34,27 @@ some-greater v c (e ∷ es) h =
           (suc rest.0, omega (arith, rest.1), rest.2)
     ]
 
-equal-of : (t x y : ℕ) → 0 < t → x * t ≡ y * t → x ≡ y
-equal-of t x y positive h =
-    let one : x ≤ y = le_of_mul-le-mul_left (let at : t * x ≤ t * y = omega (arith, h) in at) positive in
-    let two : y ≤ x = le_of_mul-le-mul_left (let at : t * y ≤ t * x = omega (arith, h) in at) positive in
-    omega (arith, one, two)
-
 -- one choice that serves both tables, where the state has the same choices for both
-meet : (n : ℕ) (v rank v' : ℕ → ℕ) (y : ℕ) (side : Side) (ms : List Distribution) → AllByRecursion (Fits n) ms
+meet : (n : ℕ) (v rank v' : ℕ → ℕ) (y : ℕ) (side : Side) (ms : List Distribution) → All (Fits n) ms
     → RankedAt side v rank y ms → SolvedAt side v y ms → SolvedAt side v' y ms → Meets n v rank v' y
 meet n v rank v' y Max ms fits ranked lower upper =
-    let one = Some-both (λ m. Fits n m × Held v' y m) (λ m. Enough v y m × Onward v rank y m)
-    (λ m. (Fits n m × Held v' y m) × (Enough v y m × Onward v rank y m)) (λ m a b. (a, b)) ms
-    (AllByRecursion-both (Fits n) (Held v' y) ms fits upper.0) ranked in
-    record { choice = one.0; fits = one.1.0.0; enough = one.1.1.0; onward = one.1.1.1; held = one.1.0.1 }
+    let one = Some-place (λ m. Enough v y m × Onward v rank y m) ms no_distribution ranked in
+    record {
+      choice = get_or ms one.0 no_distribution;
+      fits = fits one.0 no_distribution one.1.0;
+      enough = one.1.1.0;
+      onward = one.1.1.1;
+      held = upper.0 one.0 no_distribution one.1.0;
+    }
 meet n v rank v' y Min ms fits ranked lower upper =
-    let one = Some-both (λ m. (Fits n m × Enough v y m) × Onward v rank y m) (Held v' y)
-    (λ m. ((Fits n m × Enough v y m) × Onward v rank y m) × Held v' y m) (λ m a b. (a, b)) ms
-    (AllByRecursion-both (λ m. Fits n m × Enough v y m) (Onward v rank y) ms
-    (AllByRecursion-both (Fits n) (Enough v y) ms fits lower.0) ranked) upper.1 in
-    record { choice = one.0; fits = one.1.0.0.0; enough = one.1.0.0.1; onward = one.1.0.1; held = one.1.1 }
+    let one = Some-place (Held v' y) ms no_distribution upper.1 in
+    record {
+      choice = get_or ms one.0 no_distribution;
+      fits = fits one.0 no_distribution one.1.0;
+      enough = lower.0 one.0 no_distribution one.1.0;
+      onward = ranked one.0 no_distribution one.1.0;
+      held = one.1.1;
+    }
 
 -- a solution and ranks over one set of choices, and a solution over another, which differ at one state alone
 module _ (q : Query) (j : ℕ) (one two : ℕ → List Distribution) (fit : FitAll q one)
@@ -69,12 +70,7 @@ module _ (q : Query) (j : ℕ) (one two : ℕ → List Distribution) (fit : FitA
       | inr alive ↦ record {
         inside = inside;
         free = (other, alive);
-        some = elim (cases_lt 0 (v y)) [
-          | inl some ↦ some
-          | inr none ↦
-              let no_value : v y ≡ 0 = omega (arith, none) in
-              absurd (omega (arith, more, ap (λ x. x * t') no_value))
-        ];
+        some = factor-pos (v y) t' (v' y * t + d) more;
       }
     ]
   ]
@@ -93,8 +89,7 @@ module _ (q : Query) (j : ℕ) (one two : ℕ → List Distribution) (fit : FitA
 module _ (q : Query) (j : ℕ) (inside_j : j < states q) (free_j : Free q j) (both one two : ℕ → List Distribution)
     (fit_both : FitAll q both) (fit_one : FitAll q one) (fit_two : FitAll q two)
     (off_one : (s : ℕ) → (s ≡ j → ⊥) → one s ≡ both s) (off_two : (s : ℕ) → (s ≡ j → ⊥) → two s ≡ both s)
-    (all_at : (P : Distribution → Type 0) → AllByRecursion P (one j) → AllByRecursion P (two j)
-    → AllByRecursion P (both j))
+    (all_at : (P : Distribution → Type 0) → All P (one j) → All P (two j) → All P (both j))
     (some_at : (P : Distribution → Type 0) → Some P (one j) → Some P (both j))
     (which : (P : Distribution → Type 0) → Some P (both j) → Some P (one j) ⊎ Some P (two j))
     (a : Exact q one) (b : Exact q two) where
@@ -143,10 +138,13 @@ module _ (q : Query) (j : ℕ) (inside_j : j < states q) (free_j : Free q j) (bo
             held = held;
           }) in
           let sums : weighted_sum a.value m.edges * b.top ≤ weighted_sum b.value m.edges * a.top =
-          subst (λ x. x ≤ weighted_sum b.value m.edges * a.top) (sum-multiple a.value b.top m.edges)
-          (subst (λ x. weighted_sum (λ s. a.value s * b.top) m.edges ≤ x) (sum-multiple b.value a.top m.edges)
-          (sums-in_order (λ s. a.value s * b.top) (λ s. b.value s * a.top) m.edges (AllByRecursion-weaker
-          (λ (e : Edge). e.to < states q) _ (λ e inside. omega (arith, all e.to inside)) m.edges fits.inside))) in
+          omega (
+            arith,
+            sum-multiple a.value b.top m.edges,
+            sum-multiple b.value a.top m.edges,
+            sums-in_order (λ s. a.value s * b.top) (λ s. b.value s * a.top) m.edges
+                (λ i e l. omega (arith, all _ (fits.inside i e l))),
+          ) in
           sums-le (weighted_sum a.value m.edges) (weighted_sum b.value m.edges) (a.value j)
           (b.value j) a.top b.top m.total b.solves.positive sums held better
     ]
@@ -157,9 +155,7 @@ module _ (q : Query) (j : ℕ) (inside_j : j < states q) (free_j : Free q j) (bo
       value = a.value;
       rank = a.rank;
       solves = solves-both (subst (λ side. SolvedAt side a.value j (both j)) (sym maximiser) (
-        all_at (Held a.value j) at_one.0
-            (AllByRecursion-weaker (λ m. Fits (states q) m × Held b.value j m) _ (λ m h. held-two m h.0 h.1) (two j)
-            (AllByRecursion-both (Fits (states q)) (Held b.value j) (two j) (fit_two j inside_j) at_two.0)),
+        all_at (Held a.value j) at_one.0 (λ i m l. held-two _ (fit_two j inside_j i m l) (at_two.0 i m l)),
         some_at (Enough a.value j) at_one.1,
       ));
       ranks = λ s needs. elim (cases_eq s j) [
@@ -182,10 +178,10 @@ module _ (q : Query) (j : ℕ) (inside_j : j < states q) (free_j : Free q j) (bo
     least_two : SolvedAt Min b.value j (two j)
     least_two = subst (λ side. SolvedAt side b.value j (two j)) minimiser (b.solves.solved j inside_j free_j)
 
-    ranked_one : Needs q a.value j → AllByRecursion (Onward a.value a.rank j) (one j)
+    ranked_one : Needs q a.value j → All (Onward a.value a.rank j) (one j)
     ranked_one needs = subst (λ side. RankedAt side a.value a.rank j (one j)) minimiser (a.ranks j needs)
 
-    ranked_two : Needs q b.value j → AllByRecursion (Onward b.value b.rank j) (two j)
+    ranked_two : Needs q b.value j → All (Onward b.value b.rank j) (two j)
     ranked_two needs = subst (λ side. RankedAt side b.value b.rank j (two j)) minimiser (b.ranks j needs)
 
     less-strict : (x x' v v' t t' tot : ℕ) → 0 < t → x' * t ≤ x * t' → v' * tot ≤ x' → v * t' ≤ v' * t
@@ -200,12 +196,7 @@ module _ (q : Query) (j : ℕ) (inside_j : j < states q) (free_j : Free q j) (bo
     needs-two more = record {
       inside = inside_j;
       free = free_j;
-      some = elim (cases_lt 0 (b.value j)) [
-        | inl some ↦ some
-        | inr none ↦
-            let no_value : b.value j ≡ 0 = omega (arith, none) in
-            absurd (omega (arith, more, ap (λ x. x * a.top) no_value))
-      ];
+      some = factor-pos (b.value j) a.top (a.value j * b.top) more;
     }
 
     -- each choice of the second is enough for the first
@@ -225,38 +216,32 @@ module _ (q : Query) (j : ℕ) (inside_j : j < states q) (free_j : Free q j) (bo
             held = omega (arith, less);
           }) in
           let sums : weighted_sum b.value m.edges * a.top ≤ weighted_sum a.value m.edges * b.top =
-          subst (λ x. x ≤ weighted_sum a.value m.edges * b.top) (sum-multiple b.value a.top m.edges)
-          (subst (λ x. weighted_sum (λ s. b.value s * a.top) m.edges ≤ x) (sum-multiple a.value b.top m.edges)
-          (sums-in_order (λ s. b.value s * a.top) (λ s. a.value s * b.top) m.edges (AllByRecursion-weaker
-          (λ (e : Edge). e.to < states q) _ (λ e inside. omega (arith, all e.to inside)) m.edges fits.inside))) in
+          omega (
+            arith,
+            sum-multiple b.value a.top m.edges,
+            sum-multiple a.value b.top m.edges,
+            sums-in_order (λ s. b.value s * a.top) (λ s. a.value s * b.top) m.edges
+                (λ i e l. omega (arith, all _ (fits.inside i e l))),
+          ) in
           absurd (less-strict (weighted_sum a.value m.edges) (weighted_sum b.value m.edges) (a.value j)
           (b.value j) a.top b.top m.total a.solves.positive sums enough better less b.solves.positive)
     ]
 
+    all-enough : All (Enough a.value j) (two j)
+    all-enough i m l =
+        enough-two _ (fit_two j inside_j i m l) (least_two.0 i m l) (λ needs. ranked_two needs i m l)
+
     min-solves : Solves q both a.top a.value
-    min-solves = solves-both (subst (λ side. SolvedAt side a.value j (both j)) (sym minimiser) (
-      all_at (Enough a.value j) least_one.0
-          (enough-all (two j) (fit_two j inside_j) least_two.0 (λ needs. ranked_two needs)),
-      some_at (Held a.value j) least_one.1,
-    ))
-      where
-        enough-all : (ms : List Distribution) → AllByRecursion (Fits (states q)) ms
-            → AllByRecursion (Enough b.value j) ms → (Needs q b.value j → AllByRecursion (Onward b.value b.rank j) ms)
-            → AllByRecursion (Enough a.value j) ms
-        enough-all [] fits enough onward = tt
-        enough-all (m ∷ ms) fits enough onward = (
-          enough-two m fits.0 enough.0 (λ needs. (onward needs).0),
-          enough-all ms fits.1 enough.1 (λ needs. (onward needs).1),
-        )
+    min-solves = solves-both (subst (λ side. SolvedAt side a.value j (both j)) (sym minimiser)
+        (all_at (Enough a.value j) least_one.0 all-enough, some_at (Held a.value j) least_one.1))
 
     -- the second game's values are above by as much as at the state, at most
-    ahead : ℕ
+    abbrev ahead : ℕ
     ahead = b.value j * a.top - a.value j * b.top
 
-    all-ahead : (x : ℕ) → x < states q → b.value x * a.top ≤ a.value x * b.top + (b.value j * a.top - a.value j * b.top)
+    all-ahead : (x : ℕ) → x < states q → b.value x * a.top ≤ a.value x * b.top + ahead
     all-ahead = compare-off q j two one fit_two (λ s other. sym (off s other)) b.top a.top b.value b.rank a.value
-        b.solves b.ranks a.solves (b.value j * a.top - a.value j * b.top)
-        (λ more. absurd (omega (arith, more)))
+        b.solves b.ranks a.solves ahead (λ more. absurd (omega (arith, more)))
 
     module _ (X : ℕ → Type 0) (trap : Trap q both a.value X) where
       -- a choice along which the second game goes on, in the trap
@@ -276,150 +261,100 @@ module _ (q : Query) (j : ℕ) (inside_j : j < states q) (free_j : Free q j) (bo
           le_of_mul-le-mul_left whole positive
 
       sums-ahead : (m : Distribution) → Fits (states q) m → weighted_sum b.value m.edges * a.top
-          ≤ weighted_sum a.value m.edges * b.top + weight m.edges * (b.value j * a.top - a.value j * b.top)
+          ≤ weighted_sum a.value m.edges * b.top + weight m.edges * ahead
       sums-ahead m fits =
-          subst
-          (λ x. x ≤ weighted_sum a.value m.edges * b.top + weight m.edges * (b.value j * a.top - a.value j * b.top))
-          (sum-multiple b.value a.top m.edges)
-          (subst (λ x. weighted_sum (λ s. b.value s * a.top) m.edges ≤ x)
-          (sum-affine a.value b.top (b.value j * a.top - a.value j * b.top) m.edges)
-          (sums-in_order (λ s. b.value s * a.top) (λ s. a.value s * b.top + (b.value j * a.top - a.value j * b.top))
-          m.edges (AllByRecursion-weaker (λ (e : Edge). e.to < states q) _
-          (λ e inside. all-ahead e.to inside) m.edges fits.inside)))
+          rw (← sum-multiple b.value a.top m.edges, ← sum-affine a.value b.top _ m.edges)
+          (sums-in_order (λ s. b.value s * a.top) (λ s. a.value s * b.top + ahead) m.edges
+          (λ i e l. all-ahead _ (fits.inside i e l)))
 
       stays-held : (y : ℕ) (m : Distribution) → Fits (states q) m → Stays X a.value y m → Held a.value y m
       stays-held y m fits stays =
           let sums : weighted_sum a.value m.edges ≤ weighted_sum (λ s. a.value y) m.edges =
-          sums-in_order a.value (λ s. a.value y) m.edges (AllByRecursion-weaker
-          (λ (e : Edge). X e.to × (a.value e.to ≡ a.value y)) _ (λ e h. omega (arith, h.1)) m.edges stays) in
-          omega (arith, sums, sum-constant (a.value y) m.edges, mul-le-mul_right (a.value y) fits.few)
+          sums-in_order a.value (λ s. a.value y) m.edges (λ i e l. omega (arith, (stays i e l).1)) in
+          omega (arith, sums, weighted-constant (a.value y) m.edges, mul-le-mul_right (a.value y) fits.few)
 
-      walk : (y : ℕ) → y < states q → b.value y * a.top ≡ a.value y * b.top + (b.value j * a.top - a.value j * b.top)
-          → (side : Side) (ms : List Distribution) → AllByRecursion (Fits (states q)) ms → SolvedAt side a.value y ms
+      enough-here : (y : ℕ) → b.value y * a.top ≡ a.value y * b.top + ahead
+          → (m : Distribution) → Fits (states q) m → Enough b.value y m → Enough a.value y m
+      enough-here y same m fits enough =
+          enough-first (weighted_sum a.value m.edges) (weighted_sum b.value m.edges) (a.value y) (b.value y) a.top b.top
+          ahead (weight m.edges) m.total b.solves.positive same enough (sums-ahead m fits) fits.few
+
+      walk : (y : ℕ) → b.value y * a.top ≡ a.value y * b.top + ahead
+          → (side : Side) (ms : List Distribution) → All (Fits (states q)) ms → SolvedAt side a.value y ms
           → SolvedAt side b.value y ms → RankedAt side b.value b.rank y ms → CaughtAt side X a.value y ms → Walks y
-      walk y inside same Max ms fits first second ranked caught =
-          let m = Some-both (λ m. (Fits (states q) m × Held a.value y m) × (Enough a.value y m → Stays X a.value y m))
-          (λ m. Enough b.value y m × Onward b.value b.rank y m)
-          (λ m. ((Fits (states q) m × Held a.value y m) × (Enough a.value y m → Stays X a.value y m))
-          × (Enough b.value y m × Onward b.value b.rank y m)) (λ m x z. (x, z)) ms
-          (AllByRecursion-both (λ m. Fits (states q) m × Held a.value y m)
-          (λ m. Enough a.value y m → Stays X a.value y m) ms
-          (AllByRecursion-both (Fits (states q)) (Held a.value y) ms fits first.0) caught) ranked in
+      walk y same Max ms fits first second ranked caught =
+          let one = Some-place (λ m. Enough b.value y m × Onward b.value b.rank y m) ms no_distribution ranked in
+          let fit = fits one.0 no_distribution one.1.0 in
           record {
-            choice = m.0;
-            fits = m.1.0.0.0;
-            enough = m.1.1.0;
-            onward = m.1.1.1;
-            held = m.1.0.0.1;
-            stays = m.1.0.1 (enough-first (weighted_sum a.value m.0.edges) (weighted_sum b.value m.0.edges) (a.value y)
-                (b.value y) a.top b.top (b.value j * a.top - a.value j * b.top) (weight m.0.edges) m.0.total
-                b.solves.positive same m.1.1.0 (sums-ahead m.0 m.1.0.0.0) m.1.0.0.0.few);
+            choice = get_or ms one.0 no_distribution;
+            fits = fit;
+            enough = one.1.1.0;
+            onward = one.1.1.1;
+            held = first.0 one.0 no_distribution one.1.0;
+            stays = caught one.0 no_distribution one.1.0 (enough-here y same _ fit one.1.1.0);
           }
-      walk y inside same Min ms fits first second ranked caught =
-          let m =
-          Some-both (λ m. (Fits (states q) m × Enough b.value y m) × Onward b.value b.rank y m) (Stays X a.value y)
-          (λ m. ((Fits (states q) m × Enough b.value y m) × Onward b.value b.rank y m) × Stays X a.value y m)
-          (λ m x z. (x, z)) ms
-          (AllByRecursion-both (λ m. Fits (states q) m × Enough b.value y m) (Onward b.value b.rank y) ms
-          (AllByRecursion-both (Fits (states q)) (Enough b.value y) ms fits second.0) ranked) caught in
+      walk y same Min ms fits first second ranked caught =
+          let one = Some-place (Stays X a.value y) ms no_distribution caught in
+          let fit = fits one.0 no_distribution one.1.0 in
           record {
-            choice = m.0;
-            fits = m.1.0.0.0;
-            enough = m.1.0.0.1;
-            onward = m.1.0.1;
-            held = stays-held y m.0 m.1.0.0.0 m.1.1;
-            stays = m.1.1;
+            choice = get_or ms one.0 no_distribution;
+            fits = fit;
+            enough = second.0 one.0 no_distribution one.1.0;
+            onward = ranked one.0 no_distribution one.1.0;
+            held = stays-held y _ fit one.1.1;
+            stays = one.1.1;
           }
-
-      positive-two : (va vb ta tb d : ℕ) → 0 < va → 0 < tb → vb * ta ≡ va * tb + d → 0 < vb
-      positive-two va vb ta tb d some positive same = elim (cases_lt 0 vb) [
-        | inl more ↦ more
-        | inr none ↦
-            let no_value : vb ≡ 0 = omega (arith, none) in
-            absurd (omega (arith, same, ap (λ x. x * ta) no_value, mul-pos some positive))
-      ]
 
       -- it does not hold a choice of the second game
       two-free : X j → Some (Stays X a.value j) (two j) → ⊥
       two-free here stay =
-          nowhere b.value b.rank b.top
-          (λ y. X y × (b.value y * a.top ≡ a.value y * b.top + (b.value j * a.top - a.value j * b.top)))
+          nowhere b.value b.rank b.top (λ y. X y × (b.value y * a.top ≡ a.value y * b.top + ahead))
           (λ y h. b.solves.most y (trap.needs y h.0).inside)
           (λ y h.
           let needs : Needs q a.value y = trap.needs y h.0 in
           let needs' : Needs q b.value y = record {
             inside = needs.inside;
             free = needs.free;
-            some = positive-two (a.value y) (b.value y) a.top b.top
-                (b.value j * a.top - a.value j * b.top) needs.some b.solves.positive h.1;
+            some = factor-pos (b.value y) a.top 0 (omega (arith, h.1, mul-pos needs.some b.solves.positive));
           } in
           let m : Walks y = elim (cases_eq y j) [
             | inl same ↦ subst Walks (sym same)
-                (walk j inside_j
-                (subst (λ z. b.value z * a.top ≡ a.value z * b.top + (b.value j * a.top - a.value j * b.top)) same h.1)
-                Min (two j) (fit_two j inside_j)
-                (enough-some (two j) (fit_two j inside_j) least_two.0 (ranked_two (subst (Needs q b.value) same needs'))
-                stay) least_two (ranked_two (subst (Needs q b.value) same needs')) stay)
+                (walk j (subst (λ z. b.value z * a.top ≡ a.value z * b.top + ahead) same h.1) Min (two j)
+                (fit_two j inside_j) (
+                  all-enough,
+                  Some-both (Fits (states q)) (Stays X a.value j) (Held a.value j) (stays-held j) (two j)
+                      (fit_two j inside_j) stay,
+                ) least_two (ranked_two (subst (Needs q b.value) same needs')) stay)
             | inr other ↦
-                walk y needs.inside h.1 (side_at q y) (two y) (fit_two y needs.inside) (subst
+                walk y h.1 (side_at q y) (two y) (fit_two y needs.inside) (subst
                 (λ ms. SolvedAt (side_at q y) a.value y ms) (off y other) (a.solves.solved y needs.inside needs.free))
                 (b.solves.solved y needs.inside needs.free) (b.ranks y needs')
                 (subst (λ ms. CaughtAt (side_at q y) X a.value y ms) (sym (off_two y other)) (trap.caught y h.0))
           ] in
-          let equal = same-difference (states q) b.value a.value b.top a.top
-          (b.value j * a.top - a.value j * b.top) all-ahead y m.choice m.fits h.1 m.enough m.held in
-          let stays_at : X (get_or m.choice.edges m.onward.place no_edge).to
-          × (a.value (get_or m.choice.edges m.onward.place no_edge).to ≡ a.value y) =
-          AllByRecursion-at (λ (e : Edge). X e.to × (a.value e.to ≡ a.value y)) m.choice.edges m.onward.place no_edge
-          m.onward.within m.stays in
-          let equal_at : b.value (get_or m.choice.edges m.onward.place no_edge).to * a.top
-          ≡ a.value (get_or m.choice.edges m.onward.place no_edge).to * b.top
-          + (b.value j * a.top - a.value j * b.top) =
-          AllByRecursion-at
-          (λ (e : Edge). b.value e.to * a.top ≡ a.value e.to * b.top + (b.value j * a.top - a.value j * b.top))
-          m.choice.edges m.onward.place no_edge m.onward.within equal in
-          ((get_or m.choice.edges m.onward.place no_edge).to, ((stays_at.0, equal_at), m.onward.further)))
+          let equal =
+          same-difference (states q) b.value a.value b.top a.top ahead all-ahead
+          y m.choice m.fits h.1 m.enough m.held in
+          let stays_at = m.stays m.onward.place no_edge m.onward.within in (
+            (get_or m.choice.edges m.onward.place no_edge).to,
+            ((stays_at.0, equal m.onward.place no_edge m.onward.within), m.onward.further),
+          ))
           j (here, omega (arith, better))
-        where
-          enough-some : (ms : List Distribution) → AllByRecursion (Fits (states q)) ms
-              → AllByRecursion (Enough b.value j) ms → AllByRecursion (Onward b.value b.rank j) ms
-              → Some (Stays X a.value j) ms → SolvedAt Min a.value j ms
-          enough-some ms fits enough onward some = (
-            AllByRecursion-weaker (λ m. (Fits (states q) m × Enough b.value j m) × Onward b.value b.rank j m) _
-                (λ m h. enough-two m h.0.0 h.0.1 (λ _. h.1)) ms
-                (AllByRecursion-both (λ m. Fits (states q) m × Enough b.value j m) (Onward b.value b.rank j) ms
-                (AllByRecursion-both (Fits (states q)) (Enough b.value j) ms fits enough) onward),
-            held-some ms fits some,
-          )
-            where
-              held-some : (ms : List Distribution) → AllByRecursion (Fits (states q)) ms → Some (Stays X a.value j) ms
-                  → Some (Held a.value j) ms
-              held-some [] fits h = absurd h
-              held-some (m ∷ ms) fits (inl here) = inl (stays-held j m fits.0 here)
-              held-some (m ∷ ms) fits (inr later) = inr (held-some ms fits.1 later)
 
       onward-in : (y : ℕ) (m : Distribution) → Onward a.value a.rank y m → Stays X a.value y m
           → (t : ℕ) × (X t × Further a.value a.rank y t)
       onward-in y m onward stays = (
         (get_or m.edges onward.place no_edge).to,
-        (
-          (AllByRecursion-at (λ (e : Edge). X e.to × (a.value e.to ≡ a.value y)) m.edges onward.place no_edge
-              onward.within stays).0,
-          onward.further,
-        ),
+        ((stays onward.place no_edge onward.within).0, onward.further),
       )
 
       step-in : (y : ℕ) (side : Side) (ms : List Distribution) → RankedAt side a.value a.rank y ms
           → CaughtAt side X a.value y ms → (t : ℕ) × (X t × Further a.value a.rank y t)
       step-in y Max ms ranked caught =
-          let m = Some-both (λ m. Enough a.value y m → Stays X a.value y m)
-          (λ m. Enough a.value y m × Onward a.value a.rank y m) (λ m. Onward a.value a.rank y m × Stays X a.value y m)
-          (λ m x z. (z.1, x z.0)) ms caught ranked in
-          onward-in y m.0 m.1.0 m.1.1
+          let one = Some-place (λ m. Enough a.value y m × Onward a.value a.rank y m) ms no_distribution ranked in
+          onward-in y _ one.1.1.1 (caught one.0 no_distribution one.1.0 one.1.1.0)
       step-in y Min ms ranked caught =
-          let m = Some-both (Onward a.value a.rank y) (Stays X a.value y)
-          (λ m. Onward a.value a.rank y m × Stays X a.value y m) (λ m x z. (x, z)) ms ranked caught in
-          onward-in y m.0 m.1.0 m.1.1
+          let one = Some-place (Stays X a.value y) ms no_distribution caught in
+          onward-in y _ (ranked one.0 no_distribution one.1.0) one.1.1
 
       -- nor any state
       no-trap : (s : ℕ) → X s → ⊥

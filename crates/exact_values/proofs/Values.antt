@@ -1,17 +1,18 @@
 -- Every question has exact values: state after state, its choices are split into single ones.
-use Rattle.std.proofs.Common.{◌≡◌, ℕ, zero, suc, ◌*◌, ◌<◌, ◌≤◌, false, List, [], ◌∷◌, length, arith, refl, sym, ap}
+use Rattle.std.proofs.Common.{◌≡◌, ℕ, zero, suc, ◌*◌, ◌<◌, ◌≤◌, List, [], ◌∷◌, length, arith, refl, sym, ap}
 use Rattle.std.proofs.Common.{subst, inl, inr, ◌⊎◌, ◌∙◌}
-use Rattle.std.specs.List.{AllByRecursion}
-use Rattle.std.proofs.lemmas.Bool.{cases_lt, cases_eq, cases_Bool}
-use Rattle.game_model.specs.declared.game.Edge.{Edge}
+use Rattle.std.specs.List.{All}
+use Rattle.std.proofs.lemmas.List.Elements.{All-cons, All-head, All-tail}
+use Rattle.std.proofs.lemmas.Bool.{cases_lt, cases_eq}
 use Rattle.game_model.specs.declared.game.Side.{Side}
 use Rattle.game_model.specs.declared.game.Side.TheVariants.{Max, Min}
 use Rattle.game_model.specs.Game.{Distribution, no_distribution}
-use Rattle.game_model.specs.Query.{Query, states, is_goal, is_dead, side_at}
+use Rattle.game_model.specs.Query.{Query, states, side_at}
 use Rattle.game_model.specs.Values.{weighted_sum}
-use Rattle.game_model.proofs.Each.{AllByRecursion-weaker}
-use Rattle.exact_values.proofs.Descent.{Fits}
-use Rattle.exact_values.proofs.Arena.{Some, Free, SolvedAt, FitAll, Solves, RankedAt, Exact, Stays, CaughtAt}
+use Rattle.exact_values.proofs.Descent.{Fits, Held, Enough}
+use Rattle.exact_values.proofs.Arena.{Some, All-single, Free, SolvedAt, FitAll, Solves, RankedAt, Exact, Stays}
+use Rattle.exact_values.proofs.Arena.{CaughtAt, with_at, at-here, at-off}
+use Rattle.exact_values.proofs.Decided.{dec-free}
 use Rattle.exact_values.proofs.Layers.{ranks-of}
 use Rattle.exact_values.proofs.Splits.{max-both, min-both}
 use Rattle.exact_values.proofs.Chains.{Chain, Solution, solution}
@@ -41,18 +42,20 @@ first (m ∷ ms) = m
 
 -- 1. One choice for each state.
 module _ (q : Query) (m : ℕ → Distribution) (fit : FitAll q (λ s. m s ∷ [])) where
+  one-fits : (s : ℕ) → s < states q → Fits (states q) (m s)
+  one-fits s inside = All-head (Fits (states q)) (m s) [] (fit s inside)
+
   as-chain : Chain q (states q) m
   as-chain = record {
-    fits = λ s inside less free. (fit s inside).0;
-    closed = λ s inside less free.
-        AllByRecursion-weaker (λ (e : Edge). e.to < states q) _ (λ e l open_yet. l) (m s).edges (fit s inside).0.inside;
+    fits = λ s inside less free. one-fits s inside;
+    closed = λ s inside less free i e l open_yet. (one-fits s inside).inside i e l;
   }
 
   module _ (sol : Solution q (states q) m) where
     solved-one : (side : Side) (s : ℕ) → weighted_sum sol.value (m s).edges ≡ sol.value s * (m s).total
         → SolvedAt side sol.value s (m s ∷ [])
-    solved-one Max s same = ((omega (arith, same), tt), inl (omega (arith, same)))
-    solved-one Min s same = ((omega (arith, same), tt), inl (omega (arith, same)))
+    solved-one Max s same = (All-single (Held sol.value s) (m s) (omega (arith, same)), inl (omega (arith, same)))
+    solved-one Min s same = (All-single (Enough sol.value s) (m s) (omega (arith, same)), inl (omega (arith, same)))
 
     one-solves : Solves q (λ s. m s ∷ []) sol.top sol.value
     one-solves = record {
@@ -65,7 +68,7 @@ module _ (q : Query) (m : ℕ → Distribution) (fit : FitAll q (λ s. m s ∷ [
 
     stays-one : (X : ℕ → Type 0) (side : Side) (s : ℕ) → weighted_sum sol.value (m s).edges ≡ sol.value s * (m s).total
         → CaughtAt side X sol.value s (m s ∷ []) → Stays X sol.value s (m s)
-    stays-one X Max s same caught = caught.0 (omega (arith, same))
+    stays-one X Max s same caught = caught 0 (m s) (omega arith) (omega (arith, same))
     stays-one X Min s same (inl stays) = stays
     stays-one X Min s same (inr none) = absurd none
 
@@ -84,34 +87,17 @@ module _ (q : Query) (m : ℕ → Distribution) (fit : FitAll q (λ s. m s ∷ [
   single-exact = one-exact (solution q (states q) m as-chain)
 
 -- 2. More choices at one state.
-with_at : (ℕ → List Distribution) → ℕ → List Distribution → ℕ → List Distribution
-with_at c j ms s = elim (cases_eq s j) [ inl _ ↦ ms | inr _ ↦ c s ]
-
-at-here : (c : ℕ → List Distribution) (j : ℕ) (ms : List Distribution) (s : ℕ) → s ≡ j → with_at c j ms s ≡ ms
-unfolding with_at
-at-here c j ms s same = elim (cases_eq s j) as (λ e. elim e [ inl _ ↦ ms | inr _ ↦ c s ] ≡ ms) [
-  | inl _ ↦ refl
-  | inr other ↦ absurd (other same)
-]
-
-at-off : (c : ℕ → List Distribution) (j : ℕ) (ms : List Distribution) (s : ℕ) → (s ≡ j → ⊥) → with_at c j ms s ≡ c s
-unfolding with_at
-at-off c j ms s other = elim (cases_eq s j) as (λ e. elim e [ inl _ ↦ ms | inr _ ↦ c s ] ≡ c s) [
-  | inl same ↦ absurd (other same)
-  | inr _ ↦ refl
-]
-
 fit-at : (q : Query) (c : ℕ → List Distribution) (j : ℕ) (ms : List Distribution) → FitAll q c
-    → AllByRecursion (Fits (states q)) ms → FitAll q (with_at c j ms)
+    → All (Fits (states q)) ms → FitAll q (with_at c j ms)
 fit-at q c j ms fit fits s inside = elim (cases_eq s j) [
-  | inl same ↦ subst (AllByRecursion (Fits (states q))) (sym (at-here c j ms s same)) fits
-  | inr other ↦ subst (AllByRecursion (Fits (states q))) (sym (at-off c j ms s other)) (fit s inside)
+  | inl same ↦ subst (All (Fits (states q))) (sym (at-here c j ms s same)) fits
+  | inr other ↦ subst (All (Fits (states q))) (sym (at-off c j ms s other)) (fit s inside)
 ]
 
 -- a choice more
 module _ (q : Query) (c : ℕ → List Distribution) (fit : FitAll q c) (j : ℕ) (inside : j < states q)
     (free : Free q j) (m : Distribution) (ms : List Distribution) (fit_m : Fits (states q) m)
-    (fit_ms : AllByRecursion (Fits (states q)) ms) where
+    (fit_ms : All (Fits (states q)) ms) where
   abbrev one : ℕ → List Distribution
   one = with_at c j (m ∷ [])
 
@@ -124,10 +110,10 @@ module _ (q : Query) (c : ℕ → List Distribution) (fit : FitAll q c) (j : ℕ
   off : (xs ys : List Distribution) (s : ℕ) → (s ≡ j → ⊥) → with_at c j xs s ≡ with_at c j ys s
   off xs ys s other = at-off c j xs s other ∙ sym (at-off c j ys s other)
 
-  all-first : (P : Distribution → Type 0) → AllByRecursion P (one j) → AllByRecursion P (rest j)
-      → AllByRecursion P (all j)
-  all-first P h k = subst (AllByRecursion P) (sym (at-here c j (m ∷ ms) j refl))
-      ((subst (AllByRecursion P) (at-here c j (m ∷ []) j refl) h).0, subst (AllByRecursion P) (at-here c j ms j refl) k)
+  all-first : (P : Distribution → Type 0) → All P (one j) → All P (rest j)
+      → All P (all j)
+  all-first P h k = subst (All P) (sym (at-here c j (m ∷ ms) j refl)) (All-cons P m ms
+      (All-head P m [] (subst (All P) (at-here c j (m ∷ []) j refl) h)) (subst (All P) (at-here c j ms j refl) k))
 
   some-first : (P : Distribution → Type 0) → Some P (one j) → Some P (all j)
   some-first P h = subst (Some P) (sym (at-here c j (m ∷ ms) j refl))
@@ -146,13 +132,13 @@ module _ (q : Query) (c : ℕ → List Distribution) (fit : FitAll q c) (j : ℕ
   which-rest P h = elim (which-first P h) [ inl x ↦ inr x | inr y ↦ inl y ]
 
   fit_one : FitAll q one
-  fit_one = fit-at q c j (m ∷ []) fit (fit_m, tt)
+  fit_one = fit-at q c j (m ∷ []) fit (All-single (Fits (states q)) m fit_m)
 
   fit_rest : FitAll q rest
   fit_rest = fit-at q c j ms fit fit_ms
 
   fit_all : FitAll q all
-  fit_all = fit-at q c j (m ∷ ms) fit (fit_m, fit_ms)
+  fit_all = fit-at q c j (m ∷ ms) fit (All-cons (Fits (states q)) m ms fit_m fit_ms)
 
   by-side : (side : Side) → side_at q j ≡ side → Exact q one → Exact q rest → Exact q all
   by-side Max is a b = elim (cases_lt (a.value j * b.top) (b.value j * a.top)) [
@@ -198,15 +184,16 @@ some-at q c j m some s inside = elim (cases_eq s j) [
 -- the choices of one state, one after another
 grown : (q : Query) (c : ℕ → List Distribution) (j : ℕ) → FitAll q c → SomeAll q c → SingleFrom q (suc j) c
     → j < states q → Free q j → ((d : ℕ → List Distribution) → FitAll q d → SomeAll q d → SingleFrom q j d → Exact q d)
-    → (m : Distribution) (ms : List Distribution) → Fits (states q) m → AllByRecursion (Fits (states q)) ms
+    → (m : Distribution) (ms : List Distribution) → Fits (states q) m → All (Fits (states q)) ms
     → Exact q (with_at c j (m ∷ ms))
 grown q c j fit some single inside free before m [] fit_m fit_ms = before (with_at c j (m ∷ []))
-    (fit-at q c j (m ∷ []) fit (fit_m, tt)) (some-at q c j m some) (single-at q c j m single)
+    (fit-at q c j (m ∷ []) fit (All-single (Fits (states q)) m fit_m)) (some-at q c j m some) (single-at q c j m single)
 grown q c j fit some single inside free before m (m' ∷ ms) fit_m fit_ms =
     by-side q c fit j inside free m (m' ∷ ms) fit_m fit_ms (side_at q j) refl
-    (before (with_at c j (m ∷ [])) (fit-at q c j (m ∷ []) fit (fit_m, tt)) (some-at q c j m some)
-    (single-at q c j m single))
-    (grown q c j fit some single inside free before m' ms fit_ms.0 fit_ms.1)
+    (before (with_at c j (m ∷ [])) (fit-at q c j (m ∷ []) fit (All-single (Fits (states q)) m fit_m))
+    (some-at q c j m some) (single-at q c j m single))
+    (grown q c j fit some single inside free before m' ms (All-head (Fits (states q)) m' ms fit_ms)
+    (All-tail (Fits (states q)) m' ms fit_ms))
 
 -- a state with its choices
 at-state : (q : Query) (c : ℕ → List Distribution) (j : ℕ) → FitAll q c → SomeAll q c → SingleFrom q (suc j) c
@@ -215,16 +202,17 @@ at-state : (q : Query) (c : ℕ → List Distribution) (j : ℕ) → FitAll q c 
 at-state q c j fit some single inside free before [] is =
     absurd (omega (arith, some j inside, ap (λ (xs : List Distribution). length xs) is))
 at-state q c j fit some single inside free before (m ∷ ms) is =
-    let fits : AllByRecursion (Fits (states q)) (m ∷ ms) = subst (AllByRecursion (Fits (states q))) is (fit j inside) in
+    let fits : All (Fits (states q)) (m ∷ ms) = subst (All (Fits (states q))) is (fit j inside) in
     exact-same q (with_at c j (m ∷ ms)) c (λ s l f. elim (cases_eq s j) [
       | inl same ↦ at-here c j (m ∷ ms) s same ∙ sym is ∙ ap c (sym same)
       | inr other ↦ at-off c j (m ∷ ms) s other
-    ]) (grown q c j fit some single inside free before m ms fits.0 fits.1)
+    ]) (grown q c j fit some single inside free before m ms (All-head (Fits (states q)) m ms fits)
+    (All-tail (Fits (states q)) m ms fits))
 
-first-fits : (q : Query) (ms : List Distribution) → 0 < length ms → AllByRecursion (Fits (states q)) ms
+first-fits : (q : Query) (ms : List Distribution) → 0 < length ms → All (Fits (states q)) ms
     → Fits (states q) (first ms)
 first-fits q [] some h = absurd (omega (arith, some))
-first-fits q (m ∷ ms) some h = h.0
+first-fits q (m ∷ ms) some h = All-head (Fits (states q)) m ms h
 
 -- a state that is over needs no choices: one will do
 over-state : (q : Query) (c : ℕ → List Distribution) (j : ℕ) → FitAll q c
@@ -234,24 +222,21 @@ over-state q c j fit some single inside over before =
     exact-same q (with_at c j (first (c j) ∷ [])) c
     (λ s l free. at-off c j (first (c j) ∷ []) s (λ same. over (subst (Free q) same free)))
     (before (with_at c j (first (c j) ∷ []))
-    (fit-at q c j (first (c j) ∷ []) fit (first-fits q (c j) (some j inside) (fit j inside), tt))
+    (fit-at q c j (first (c j) ∷ []) fit
+    (All-single (Fits (states q)) (first (c j)) (first-fits q (c j) (some j inside) (fit j inside))))
     (some-at q c j (first (c j)) some) (single-at q c j (first (c j)) single))
 
 pub exact-from : (q : Query) (j : ℕ) (c : ℕ → List Distribution) → FitAll q c → SomeAll q c
     → SingleFrom q j c → Exact q c
 exact-from q zero c fit some single =
     exact-same q (λ s. first (c s) ∷ []) c (λ s inside free. sym (single s inside (omega arith)))
-    (single-exact q (λ s. first (c s)) (λ s inside. (first-fits q (c s) (some s inside) (fit s inside), tt)))
+    (single-exact q (λ s. first (c s)) (λ s inside. All-single (Fits (states q)) (first (c s))
+    (first-fits q (c s) (some s inside) (fit s inside))))
 exact-from q (suc j) c fit some single = elim (cases_lt j (states q)) [
   | inr past ↦ exact-from q j c fit some (λ s inside from. absurd (omega (arith, inside, past, from)))
-  | inl inside ↦ elim (cases_Bool (is_goal q j)) [
-    | inl goal ↦ over-state q c j fit some single inside
-        (λ free. absurd (let no : is_goal q j ≡ false = free.0 in cc)) (exact-from q j)
-    | inr other ↦ elim (cases_Bool (is_dead q j)) [
-      | inl dead ↦ over-state q c j fit some single inside
-          (λ free. absurd (let no : is_dead q j ≡ false = free.1 in cc)) (exact-from q j)
-      | inr alive ↦ at-state q c j fit some single inside (other, alive) (exact-from q j) (c j) refl
-    ]
+  | inl inside ↦ elim (dec-free q j) [
+    | inr over ↦ over-state q c j fit some single inside over (exact-from q j)
+    | inl free ↦ at-state q c j fit some single inside free (exact-from q j) (c j) refl
   ]
 ]
 

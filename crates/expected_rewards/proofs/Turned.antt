@@ -1,22 +1,23 @@
 -- What is reached where the sides are exchanged.
 use Rattle.std.proofs.Common.{◌≡◌, ℕ, zero, suc, ◌+◌, ◌*◌, ◌^◌, ◌<◌, ◌≤◌, Bool, true, List, [], ◌∷◌}
-use Rattle.std.proofs.Common.{sum_by, arith, refl, sym, ◌∙◌, ap, subst, Option}
+use Rattle.std.proofs.Common.{arith, refl, sym, ◌∙◌, ap, subst, Option}
 use Rattle.std.specs.Bool.{if◌then◌else◌}
 use Rattle.std.specs.List.{range_with_len}
 use Rattle.std.proofs.Math.Nat.{le_of_mul-le-mul_left}
 use Rattle.std.proofs.lemmas.List.{get_or-map, length-map}
-use Rattle.std.proofs.lemmas.List.Sums.{sum_by-cons}
 use Rattle.game_model.specs.declared.game.Side.{Side}
 use Rattle.game_model.specs.declared.game.Side.TheVariants.{Max, Min}
-use Rattle.game_model.specs.Game.{Distribution, choice_of}
+use Rattle.game_model.specs.Game.{choice_of}
 use Rattle.game_model.specs.Limits.{unit}
 use Rattle.game_model.specs.Query.{Query, IsQuery, states, is_goal, is_dead, side_at}
 use Rattle.game_model.specs.Values.{denominator}
 use Rattle.game_model.specs.Dual.{other_side}
-use Rattle.game_model.proofs.Choices.{IsChoiceOf, IsChoiceOf-choice_of}
+use Rattle.game_model.proofs.Choices.{IsChoiceOf-choice_of}
 use Rattle.strategies.specs.Strategies.{Turn, Strategy, IsStrategyOf, of_side, worth, reach, by_plan, ReachesAgainstAll}
 use Rattle.strategies.proofs.Plans.{by_plan-inside}
-use Rattle.strategies.proofs.Turns.{worth-le, of_side-inside}
+use Rattle.strategies.proofs.Sums.{sum-same}
+use Rattle.strategies.proofs.Ways.{worth-same}
+use Rattle.strategies.proofs.Turns.{of_side-inside}
 use Rattle.expected_rewards.specs.Turned.{turned}
 use Rattle.expected_rewards.specs.Tables.{is_finite}
 use Rattle.expected_rewards.specs.Promises.{EndsSurely}
@@ -51,21 +52,6 @@ of-other : (side : Side) (a b : Strategy) (past : List Turn) (s throw : ℕ)
     → of_side (other_side side) a b past s throw ≡ of_side side b a past s throw
 of-other Max a b past s throw = refl
 of-other Min a b past s throw = refl
-
-both-ways : (x y : ℕ) → 1 * x ≤ 1 * y → 1 * y ≤ 1 * x → x ≡ y
-both-ways x y h k = omega (arith, h, k)
-
-pub worth-same : (q : Query) (v w : ℕ → ℕ) (m : Distribution) → IsChoiceOf q.game m → ((t : ℕ) → t < states q → v t
-    ≡ w t)
-    → worth q v m ≡ worth q w m
-worth-same q v w m fits h =
-    both-ways (worth q v m) (worth q w m)
-    (worth-le q v w 1 1 m fits (λ t inside. omega (arith, h t inside)))
-    (worth-le q w v 1 1 m fits (λ t inside. omega (arith, h t inside)))
-
-sum-same : (f g : ℕ → ℕ) (xs : List ℕ) → ((x : ℕ) → f x ≡ g x) → sum_by f xs ≡ sum_by g xs
-sum-same f g [] h = refl
-sum-same f g (x ∷ xs) h = rw (sum_by-cons f x xs, sum_by-cons g x xs, h x, sum-same f g xs h) refl
 
 module _ (q : Query) (posed : IsQuery q) (faces : ℕ) (greatest least : Strategy) (up : IsStrategyOf q Max greatest)
     (down : IsStrategyOf q Min least) where

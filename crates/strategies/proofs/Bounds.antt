@@ -30,11 +30,6 @@ module _ (q : Query) (posed : IsQuery q) (choices : ℕ → List Distribution) (
   taken : List Turn → ℕ → ℕ → ℕ
   taken past s throw = of_side (side_at q s) greatest least past s throw
 
-  next : ℕ → List Turn → ℕ → ℕ → ℕ
-  next k past s throw = worth q (reach q faces greatest least k
-      (record { state = s; throw = throw; choice = of_side (side_at q s) greatest least past s throw } ∷ past))
-      (choice_of q.game s (of_side (side_at q s) greatest least past s throw))
-
   -- where each choice that is taken is worth at least the optimum, the play reaches at least the value
   pub reach-least : ((k : ℕ) (past : List Turn) (s throw : ℕ) → Fits (suc k) past → s < states q
       → optimum (side_at q s) (worth q (numerator_of q choices k)) (choices s)

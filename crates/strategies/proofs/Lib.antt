@@ -1,3 +1,4 @@
+pub mod Sums
 pub mod Turns
 pub mod Bounds
 pub mod Best
@@ -8,3 +9,5 @@ pub mod Stopping
 pub mod Ending
 pub mod Next
 pub mod Avoiding
+pub mod Posed
+pub mod Lingering

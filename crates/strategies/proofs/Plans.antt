@@ -34,9 +34,6 @@ by_plan-inside q posed side plan past s throw inside is =
 
 module _ (q : Query) (posed : IsQuery q) (plan : List (Option ℕ)) (table : ℕ → ℕ) (past : List Turn) (s throw : ℕ)
     (opponent : Strategy) (inside : s < states q) where
-  place : ℕ
-  place = planned_place plan s (length (choices_of q.game s))
-
   within : planned_place plan s (length (choices_of q.game s)) < length (choices_of q.game s)
   within = planned_place-inside plan s (length (choices_of q.game s)) (posed.game.chosen s inside)
 

@@ -1,10 +1,10 @@
 -- What is reached rises with the horizon, and is at most 1.
-use Rattle.std.proofs.Common.{◌≡◌, ℕ, zero, suc, ◌+◌, ◌*◌, ◌/◌, ◌^◌, ◌<◌, ◌≤◌, Bool, true, false, List, [], ◌∷◌, sum_by}
+use Rattle.std.proofs.Common.{◌≡◌, ℕ, zero, suc, ◌+◌, ◌*◌, ◌/◌, ◌^◌, ◌<◌, ◌≤◌, Bool, true, false, List, [], ◌∷◌}
 use Rattle.std.proofs.Common.{arith}
 use Rattle.std.specs.List.{range_with_len}
 use Rattle.std.specs.Bool.{if◌then◌else◌}
 use Rattle.std.proofs.Math.Nat.{pow-suc}
-use Rattle.std.proofs.lemmas.List.Sums.{sum_by-cons, sum_by-le-sum_by}
+use Rattle.std.proofs.lemmas.List.Sums.{sum_by-le-sum_by}
 use Rattle.game_model.specs.declared.game.Side.TheVariants.{Max, Min}
 use Rattle.game_model.specs.Game.{Distribution, choice_of}
 use Rattle.game_model.specs.Query.{Query, IsQuery, states, is_goal, is_dead, side_at}
@@ -14,12 +14,9 @@ use Rattle.game_model.proofs.Best.{weighted_sum-le}
 use Rattle.game_model.proofs.Rises.{scaled-le, pow-one}
 use Rattle.strategies.specs.Strategies.{Turn, Strategy, IsStrategyOf, of_side, reach}
 use Rattle.strategies.specs.Plays.{Play, plays, is_won}
+use Rattle.strategies.proofs.Sums.{sum-scaled}
 use Rattle.strategies.proofs.Turns.{marked-le}
 use Rattle.strategies.proofs.Ways.{ways-are}
-
-sum-scaled : (a : ℕ) (f g : ℕ → ℕ) (xs : List ℕ) → ((x : ℕ) → a * f x ≤ 1 * g x) → a * sum_by f xs ≤ 1 * sum_by g xs
-sum-scaled a f g [] h = omega arith
-sum-scaled a f g (x ∷ xs) h = rw (sum_by-cons f x xs, sum_by-cons g x xs) (omega (arith, sum-scaled a f g xs h, h x))
 
 opens : (goal : Bool) (d x : ℕ) → d * (if goal then 1 else 0) ≤ 1 * (if goal then d ^ 1 else x)
 opens true d x = let at : d * 1 ≤ 1 * d ^ 1 = omega (arith, pow-one d) in at
@@ -34,7 +31,7 @@ module _ (q : Query) (faces : ℕ) (greatest least : Strategy) where
       let d : ℕ = faces * denominator q.game in
       marked-le (is_goal q s) (is_dead q s) d 1 (d ^ suc k) (d ^ suc (suc k)) _ _
       (omega (arith, pow-suc d (suc k)))
-      (sum-scaled d _ _ (range_with_len 0 faces) (λ throw.
+      (sum-scaled d 1 _ _ (range_with_len 0 faces) (λ throw.
       let c : ℕ = of_side (side_at q s) greatest least past s throw in
       let turn : Turn =
       record { state = s; throw = throw; choice = of_side (side_at q s) greatest least past s throw } in

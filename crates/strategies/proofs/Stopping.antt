@@ -78,9 +78,6 @@ closing top up low r o n u e x c positive near above gap few =
     le_of_mul-le-mul_left whole positive
 
 module _ (q : Query) (posed : IsQuery q) (lost : List Bool) (zero_set : IsZeroSet q lost) where
-  D : ℕ
-  D = denominator q.game
-
   fits : (s c : ℕ) → s < states q → c < length (choices_of q.game s) → IsChoiceOf q.game (choice_of q.game s c)
   fits s c inside within = IsChoiceOf-choice_of q.game s c posed.game inside within
 

@@ -1,7 +1,7 @@
 -- What one turn of a play adds.
 use Rattle.std.proofs.Common.{◌≡◌, ℕ, zero, suc, ◌*◌, ◌/◌, ◌^◌, ◌<◌, ◌≤◌, Bool, true, false, List, [], ◌∷◌, length}
 use Rattle.std.proofs.Common.{sum_by, arith, subst}
-use Rattle.std.specs.List.{range_with_len}
+use Rattle.std.specs.List.{AllByRecursion, range_with_len}
 use Rattle.std.specs.Bool.{if◌then◌else◌}
 use Rattle.std.proofs.Math.Nat.{pow-suc, pow-zero}
 use Rattle.std.proofs.lemmas.List.Sums.{sum_by-cons}
@@ -51,13 +51,19 @@ pub faces-most : (f : ℕ → ℕ) (most faces : ℕ) → ((x : ℕ) → f x ≤
 faces-most f most faces h = subst (λ n. sum_by f (range_with_len 0 faces) ≤ n * most) (length-range_with_len 0 faces)
     (sum-most f most (range_with_len 0 faces) h)
 
+-- a choice over tables that are in order at each of its successors
+pub worth-among : (q : Query) (Among : ℕ → Type 0) (v w : ℕ → ℕ) (a b : ℕ) (m : Distribution)
+    → AllByRecursion (λ e. Among e.to) m.edges → ((t : ℕ) → Among t → a * v t ≤ b * w t)
+    → a * worth q v m ≤ b * worth q w m
+worth-among q Among v w a b m fits h =
+    scaled-le a b (denominator q.game / m.total) (weighted_sum v m.edges) (weighted_sum w m.edges)
+    (weighted_sum-le v w a b m.edges
+    (AllByRecursion-weaker (λ (e : Edge). Among e.to) _ (λ e among. h e.to among) m.edges fits))
+
 -- a choice is worth more where its successors are
 pub worth-le : (q : Query) (v w : ℕ → ℕ) (a b : ℕ) (m : Distribution) → IsChoiceOf q.game m
     → ((t : ℕ) → t < states q → a * v t ≤ b * w t) → a * worth q v m ≤ b * worth q w m
-worth-le q v w a b m fits h =
-    scaled-le a b (denominator q.game / m.total) (weighted_sum v m.edges) (weighted_sum w m.edges)
-    (weighted_sum-le v w a b m.edges
-    (AllByRecursion-weaker (λ (e : Edge). e.to < states q) _ (λ e inside. h e.to inside) m.edges fits.inside))
+worth-le q v w a b m fits h = worth-among q (λ t. t < states q) v w a b m fits.inside h
 
 -- the strategy that is to move takes a choice that exists
 pub of_side-inside : (q : Query) (greatest least : Strategy) → IsStrategyOf q Max greatest

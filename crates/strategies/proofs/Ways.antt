@@ -1,12 +1,11 @@
 -- The ways of plays add up, and those of the plays that are won to what is reached.
-use Rattle.std.proofs.Common.{◌≡◌, ℕ, zero, suc, ◌+◌, ◌*◌, ◌/◌, ◌^◌, ◌<◌, ◌≤◌, Bool, true, false, List, [], ◌∷◌, length}
+use Rattle.std.proofs.Common.{◌≡◌, ℕ, zero, suc, ◌+◌, ◌*◌, ◌/◌, ◌^◌, ◌<◌, ◌≤◌, Bool, true, false, List, [], ◌∷◌}
 use Rattle.std.proofs.Common.{map, sum_by, arith, refl, sym, ◌∙◌, ap}
-use Rattle.std.specs.Prelude.{flat_map, ◌&&◌, ◌||◌, not}
+use Rattle.std.specs.Prelude.{◌&&◌, ◌||◌, not}
 use Rattle.std.specs.List.{range_with_len}
 use Rattle.std.specs.Bool.{if◌then◌else◌}
 use Rattle.std.proofs.Math.Nat.{pow-suc, pow-zero}
-use Rattle.std.proofs.lemmas.List.Sums.{sum_by-cons, sum_by-append}
-use Rattle.std.proofs.lemmas.List.FromFn.{length-range_with_len}
+use Rattle.std.proofs.lemmas.List.Sums.{sum_by-cons}
 use Rattle.game_model.specs.declared.game.Edge.{Edge}
 use Rattle.game_model.specs.declared.game.Side.TheVariants.{Max, Min}
 use Rattle.game_model.specs.Game.{Distribution, choice_of}
@@ -16,28 +15,8 @@ use Rattle.game_model.proofs.Choices.{IsChoiceOf, IsChoiceOf-choice_of}
 use Rattle.strategies.specs.Strategies.{Turn, Strategy, IsStrategyOf, of_side, worth, reach}
 use Rattle.strategies.specs.Plays.{Play, begun_at, plays, is_won, ways_won, ways_lost, AreWays}
 use Rattle.strategies.specs.Next.{comes_next, ways_next}
+use Rattle.strategies.proofs.Sums.{sum-flat_map, sum-same, sum-factor, sum-map, sum-throws, weighted-constant}
 use Rattle.strategies.proofs.Turns.{worth-le, of_side-inside}
-
--- a sum over pieces
-sum-flat_map : {X Y : Type 0} (g : Y → ℕ) (f : X → List Y) (xs : List X)
-    → sum_by g (flat_map f xs) ≡ sum_by (λ x. sum_by g (f x)) xs
-sum-flat_map g f [] = refl
-sum-flat_map g f (x ∷ xs) = sum_by-append g (f x) (flat_map f xs) ∙ ap (λ n. sum_by g (f x) + n) (sum-flat_map g f xs)
-    ∙ sym (sum_by-cons (λ y. sum_by g (f y)) x xs)
-
--- a sum of equal terms
-sum-same : {X : Type 0} (f g : X → ℕ) (xs : List X) → ((x : X) → f x ≡ g x) → sum_by f xs ≡ sum_by g xs
-sum-same f g [] h = refl
-sum-same f g (x ∷ xs) h = rw (sum_by-cons f x xs, sum_by-cons g x xs, h x, sum-same f g xs h) refl
-
--- a sum of terms with a common factor
-sum-factor : {X : Type 0} (r : ℕ) (f : X → ℕ) (xs : List X) → sum_by (λ x. r * f x) xs ≡ r * sum_by f xs
-sum-factor r f [] = omega arith
-sum-factor r f (x ∷ xs) = rw (sum_by-cons (λ y. r * f y) x xs, sum_by-cons f x xs, sum-factor r f xs) (omega arith)
-
-sum-constant : (c : ℕ) (xs : List ℕ) → sum_by (λ x. c) xs ≡ length xs * c
-sum-constant c [] = omega arith
-sum-constant c (x ∷ xs) = rw (sum_by-cons (λ (y : ℕ). c) x xs, sum-constant c xs) (omega arith)
 
 -- what plays bring, where each brings this much for each way
 abbrev brought : (List ℕ → ℕ) → List Play → ℕ
@@ -45,36 +24,18 @@ brought pay all = sum_by (λ play. play.ways * pay play.through) all
 
 brought-begun : (pay : List ℕ → ℕ) (s ways : ℕ) (all : List Play)
     → brought pay (map (begun_at s ways) all) ≡ ways * brought (λ through. pay (s ∷ through)) all
-brought-begun pay s ways [] = omega arith
-brought-begun pay s ways (play ∷ all) =
-    rw (
-      sum_by-cons (λ (p : Play). p.ways * pay p.through) (begun_at s ways play) (map (begun_at s ways) all),
-      sum_by-cons (λ (p : Play). p.ways * pay (s ∷ p.through)) play all,
-      brought-begun pay s ways all,
-    )
-    (omega arith)
+brought-begun pay s ways all = sum-map (λ (p : Play). p.ways * pay p.through)
+    (λ (p : Play). p.ways * pay (s ∷ p.through)) (begun_at s ways) ways (λ p. omega arith) all
 
 -- over the edges of a choice
 brought-edges : (pay : List ℕ → ℕ) (s r : ℕ) (from : ℕ → List Play) (edges : List Edge)
     → sum_by (λ (e : Edge). brought pay (map (begun_at s (r * e.weight)) (from e.to))) edges
     ≡ r * weighted_sum (λ t. brought (λ through. pay (s ∷ through)) (from t)) edges
-brought-edges pay s r from [] = omega arith
-brought-edges pay s r from (e ∷ edges) =
-    rw (
-      sum_by-cons (λ (d : Edge). brought pay (map (begun_at s (r * d.weight)) (from d.to))) e edges,
-      sum_by-cons (λ (d : Edge). d.weight * brought (λ through. pay (s ∷ through)) (from d.to)) e edges,
-      brought-begun pay s (r * e.weight) (from e.to),
-      brought-edges pay s r from edges,
-    )
-    (omega arith)
-
-weighted-constant : (c : ℕ) (edges : List Edge) → weighted_sum (λ t. c) edges ≡ sum_by (λ e. e.weight) edges * c
-weighted-constant c [] = omega arith
-weighted-constant c (e ∷ edges) = rw (
-  sum_by-cons (λ (d : Edge). d.weight * c) e edges,
-  sum_by-cons (λ (d : Edge). d.weight) e edges,
-  weighted-constant c edges,
-) (omega arith)
+brought-edges pay s r from edges =
+    sum-same (λ (e : Edge). brought pay (map (begun_at s (r * e.weight)) (from e.to)))
+    (λ e. r * (e.weight * brought (λ through. pay (s ∷ through)) (from e.to))) edges
+    (λ e. omega (arith, brought-begun pay s (r * e.weight) (from e.to)))
+    ∙ sum-factor r (λ (e : Edge). e.weight * brought (λ through. pay (s ∷ through)) (from e.to)) edges
 
 share : (d r w c : ℕ) → r * w ≡ d → r * (w * c) ≡ d * c
 share d r w c same = rw (← same) (omega arith)
@@ -90,8 +51,8 @@ both-ways : (x y : ℕ) → 1 * x ≤ 1 * y → 1 * y ≤ 1 * x → x ≡ y
 both-ways x y h k = omega (arith, h, k)
 
 -- a choice is worth the same where its successors are
-worth-same : (q : Query) (v w : ℕ → ℕ) (m : Distribution) → IsChoiceOf q.game m → ((t : ℕ) → t < states q → v t ≡ w t)
-    → worth q v m ≡ worth q w m
+pub worth-same : (q : Query) (v w : ℕ → ℕ) (m : Distribution) → IsChoiceOf q.game m
+    → ((t : ℕ) → t < states q → v t ≡ w t) → worth q v m ≡ worth q w m
 worth-same q v w m fits h =
     both-ways (worth q v m) (worth q w m)
     (worth-le q v w 1 1 m fits (λ t inside. omega (arith, h t inside)))
@@ -159,19 +120,12 @@ module _ (q : Query) (posed : IsQuery q) (faces : ℕ) (greatest least : Strateg
       rw (pow-zero (faces * denominator q.game)) (let at : 0 + 1 * c ≡ c * 1 = omega arith in at)
   total-constant c (suc k) past s inside =
       let P : ℕ = c * (faces * denominator q.game) ^ k in
-      let turn : total (λ through. c) (suc k) past s
-      ≡ sum_by (λ throw. denominator q.game * P) (range_with_len 0 faces) =
-      total-turn (λ through. c) k past s
-      ∙ sum-same _ _ (range_with_len 0 faces) (λ throw.
+      let turn : total (λ through. c) (suc k) past s ≡ faces * (denominator q.game * P) =
+      total-turn (λ through. c) k past s ∙ sum-throws _ (denominator q.game * P) faces (λ throw.
       worth-same q (λ t. total (λ through. c) k (turn_at past s throw ∷ past) t) (λ t. P) (choice_at past s throw)
       (fits past s throw inside) (λ t within. total-constant c k (turn_at past s throw ∷ past) t within)
       ∙ worth-constant q P (choice_at past s throw) (fits past s throw inside)) in
-      let all : sum_by (λ throw. denominator q.game * P) (range_with_len 0 faces) ≡ faces * (denominator q.game * P) =
-      sum-constant (denominator q.game * P) (range_with_len 0 faces)
-      ∙ ap (λ n. n * (denominator q.game * P)) (length-range_with_len 0 faces) in
-      let power : (faces * denominator q.game) ^ suc k
-      ≡ (faces * denominator q.game) ^ k * (faces * denominator q.game) = pow-suc (faces * denominator q.game) k in
-      rw (power) (omega (arith, turn, all))
+      rw (pow-suc (faces * denominator q.game) k) (omega (arith, turn))
 
   -- the plays that are won
   total-won : (k : ℕ) (past : List Turn) (s : ℕ) → s < states q
@@ -234,24 +188,27 @@ module _ (q : Query) (posed : IsQuery q) (faces : ℕ) (greatest least : Strateg
         | false ↦ refl
       ]
 
+  all-ways : (k s : ℕ) → s < states q
+      → sum_by (λ (play : Play). play.ways) (plays q faces greatest least k [] s) ≡ (faces * denominator q.game) ^ k
+  all-ways k s inside =
+      sum-same (λ (play : Play). play.ways) (λ (play : Play). play.ways * 1) (plays q faces greatest least k [] s)
+      (λ play. times-one play.ways) ∙ total-constant 1 k [] s inside ∙ one-times ((faces * denominator q.game) ^ k)
+
+  won-ways : (k s : ℕ) → s < states q
+      → ways_won q (plays q faces greatest least k [] s) ≡ reach q faces greatest least k [] s
+  won-ways k s inside =
+      sum-same (λ (play : Play). if is_won q play.through then play.ways else 0)
+      (λ (play : Play). play.ways * (if is_won q play.through then 1 else 0)) (plays q faces greatest least k [] s)
+      (λ play. if-ways (is_won q play.through) play.ways) ∙ total-won k [] s inside
+
   pub ways-are : (k s : ℕ) → s < states q → AreWays q faces greatest least k s
   ways-are k s inside = record {
-    all = sum-same (λ (play : Play). play.ways) (λ (play : Play). play.ways * 1) (plays q faces greatest least k [] s)
-        (λ play. times-one play.ways)
-        ∙ total-constant 1 k [] s inside ∙ one-times ((faces * denominator q.game) ^ k);
-    won = sum-same (λ (play : Play). if is_won q play.through then play.ways else 0)
-        (λ (play : Play). play.ways * (if is_won q play.through then 1 else 0)) (plays q faces greatest least k [] s)
-        (λ play. if-ways (is_won q play.through) play.ways)
-        ∙ total-won k [] s inside;
-    lost =
-        let all : sum_by (λ (play : Play). play.ways) (plays q faces greatest least k [] s)
-        ≡ (faces * denominator q.game) ^ k =
-        sum-same (λ (play : Play). play.ways) (λ (play : Play). play.ways * 1) (plays q faces greatest least k [] s)
-        (λ play. times-one play.ways) ∙ total-constant 1 k [] s inside ∙ one-times ((faces * denominator q.game) ^ k) in
-        let won : ways_won q (plays q faces greatest least k [] s) ≡ reach q faces greatest least k [] s =
-        sum-same (λ (play : Play). if is_won q play.through then play.ways else 0)
-        (λ (play : Play). play.ways * (if is_won q play.through then 1 else 0)) (plays q faces greatest least k [] s)
-        (λ play. if-ways (is_won q play.through) play.ways)
-        ∙ total-won k [] s inside in
-        omega (arith, all, won, won-or-lost q (plays q faces greatest least k [] s));
+    all = all-ways k s inside;
+    won = won-ways k s inside;
+    lost = omega (
+      arith,
+      all-ways k s inside,
+      won-ways k s inside,
+      won-or-lost q (plays q faces greatest least k [] s),
+    );
   }

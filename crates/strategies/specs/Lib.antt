@@ -2,3 +2,4 @@ pub mod Strategies
 pub mod Plays
 pub mod Next
 pub mod Stopping
+pub mod worked_games
