@@ -1,29 +1,12 @@
--- What the guesses of upper and of lower tables have in common.
-use Rattle.std.proofs.Common.{◌≡◌, ℕ, ◌+◌, ◌*◌, ◌^◌, ◌<◌, ◌≤◌, List, length, take, sym, ap, ◌∙◌, arith, inl, inr}
-use Rattle.std.proofs.lemmas.Bool.{cases_lt}
-use Rattle.std.proofs.lemmas.List.{ext_get_or}
+-- The sum over a choice of a game as a loop has it, and one more edge.
+use Rattle.std.proofs.Common.{◌≡◌, ℕ, ◌+◌, ◌*◌, ◌^◌, ◌<◌, ◌≤◌, List, length, take, ap, ◌∙◌, arith}
 use Rattle.game_model.specs.declared.game.Edge.{Edge}
 use Rattle.game_model.specs.Game.{Distribution, IsDistribution, choices_of, choice_of, edge_of}
 use Rattle.game_model.specs.Query.{Query, IsQuery, states}
 use Rattle.game_model.specs.Limits.{unit}
-use Rattle.game_model.specs.Tables.{IsTable}
 use Rattle.fixed_bellman.specs.Sums.{IsSumBetween}
 use Rattle.fixed_bellman.proofs.Sums.{IsSumBetween-still, sum-fits}
 
--- lists with the same entries
-pub IsTable-one : (q : Query) (entries : ℕ → ℕ) (table other : List ℕ) → IsTable q entries table
-    → IsTable q entries other → table ≡ other
-IsTable-one q entries table other h k = ext_get_or 0 table other (h.many ∙ sym k.many)
-    (λ s inside. let there : s < states q = omega (arith, inside, h.many) in h.each s there ∙ sym (k.each s there))
-
--- the least number of which something holds is one
-pub least-one : (P : ℕ → Type 0) (i j : ℕ) → P i → P j → ((k : ℕ) → k < i → ¬ P k) → ((k : ℕ) → k < j → ¬ P k) → i ≡ j
-least-one P i j here there before earlier = elim (cases_lt i j) [
-  | inl less ↦ absurd (earlier i less here)
-  | inr most ↦ elim (cases_lt j i) [ inl less ↦ absurd (before j less there) | inr least ↦ omega arith ]
-]
-
--- the sum over a choice as a loop has it, and one more edge
 module _ (q : Query) (v : ℕ → ℕ) (s c p sum : ℕ) {count value : ℕ} {edge : Edge} {game : List (List Distribution)}
     (units : (t : ℕ) → v t ≤ unit) (same : game ≡ q.game) (is_count : count ≡ length (choice_of game s c).edges)
     (before : p < count) (is_edge : edge ≡ edge_of game s c p)
