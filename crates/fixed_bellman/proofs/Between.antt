@@ -49,7 +49,8 @@ pub read-choice : {q : Query} {s i count : ℕ} {row : List Distribution} {r : Q
     → IsQuery q → s < states q → row ≡ choices_of q.game s → count ≡ length row → i < count
     → IsBetween r mid new (choice_among row i) → ((t : ℕ) → old t ≤ mid t) → ((t : ℕ) → mid t ≤ new t)
     → ReadChoice q s i r old mid new
-read-choice {q} {s} {i} {count} {row} {r} {old} {mid} {new} query inside same is_count before read earlier later = record {
+read-choice {q} {s} {i} {count} {row} {r} {old} {mid} {new} query inside same is_count before read earlier later =
+    record {
   query = query;
   inside = inside;
   chosen = omega (arith, ap length same);

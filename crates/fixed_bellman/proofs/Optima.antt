@@ -49,7 +49,8 @@ least-whole f (x ∷ xs) p best top some past first same =
 
 -- what a loop over the choices of a state finds, of values that are at most the unit
 pub least-found : (q : Query) (s p count best : ℕ) (row : List Distribution) (f : Distribution → ℕ) → IsQuery q
-    → s < states q → row ≡ choices_of q.game s → count ≡ length row → count ≤ p → ((m : _) → IsDistribution m → f m ≤ unit)
+    → s < states q → row ≡ choices_of q.game s → count ≡ length row → count ≤ p
+    → ((m : _) → IsDistribution m → f m ≤ unit)
     → best ≡ fold (λ least y. better Min least (f y)) unit (take p (choices_of q.game s))
     → best ≡ optimum Min f (choices_of q.game s)
 least-found q s p count best row f h inside is_row is_count past units =

@@ -45,7 +45,7 @@ sum-overflow_add-sum t c =
 
 pub sum-loop-place-preserved : goal.sum-loop-place-preserved
 sum-loop-place-preserved t c =
-    rw c.from.ensures (one-more c.args.self.now.question.now (entry_of c.args.self.now c.args.steps) c.args.state c.args.choice
-    c.loop-place.place c.loop-place.sum (entry-units c.args.self.now c.args.steps) c.game-game.ensures
+    rw c.from.ensures (one-more c.args.self.now.question.now (entry_of c.args.self.now c.args.steps) c.args.state
+    c.args.choice c.loop-place.place c.loop-place.sum (entry-units c.args.self.now c.args.steps) c.game-game.ensures
     c.edge_count-place-end.ensures c.loop-place-test.true c.edge-edge.ensures c.loop-place.invariant
     c.in_ok-entry.ensures)
