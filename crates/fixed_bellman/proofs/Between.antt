@@ -51,13 +51,13 @@ pub read-choice : {q : Query} {s i count : ℕ} {row : List Distribution} {r : Q
     → ReadChoice q s i r old mid new
 read-choice {q} {s} {i} {count} {row} {r} {old} {mid} {new} query inside same is_count before read earlier later =
     record {
-  query = query;
-  inside = inside;
-  chosen = omega (arith, ap length same);
-  between = subst (λ (ms : List Distribution). IsBetween r mid new (choice_among ms i)) same read;
-  earlier = earlier;
-  later = later;
-}
+      query = query;
+      inside = inside;
+      chosen = omega (arith, ap length same);
+      between = subst (λ (ms : List Distribution). IsBetween r mid new (choice_among ms i)) same read;
+      earlier = earlier;
+      later = later;
+    }
 
 module _ {q : Query} {s i : ℕ} {r : Quotient} {old mid new : ℕ → ℕ} (e : ReadChoice q s i r old mid new) where
   pub value-old : down_value old (choice_of q.game s i) ≤ rounded_down r

@@ -63,7 +63,8 @@ module _ (edges : List Edge) (table : List Bounds) (p low high : ℕ) (edge : Ed
 
 -- one more edge of a choice
 module _ (m : Distribution) (table : List Bounds) (p count low high : ℕ) (edge : Edge)
-    (is_count : count ≡ length m.edges) (before : p < count) (is : edge ≡ get_or m.edges p no_edge) (inside : All (λ e. e.to < length table) m.edges)
+    (is_count : count ≡ length m.edges) (before : p < count)
+    (is : edge ≡ get_or m.edges p no_edge) (inside : All (λ e. e.to < length table) m.edges)
     (units : All AreUnits table) (so_far : AreSums (take p m.edges) table low high) where
   there : p < length m.edges
   there = omega arith
