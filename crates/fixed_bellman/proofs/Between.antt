@@ -6,7 +6,7 @@ use Rattle.std.proofs.lemmas.Bool.{true≢false, cases_lt}
 use Rattle.std.proofs.lemmas.List.Elements.{recursion_from_All, All-from_get_or}
 use Rattle.std.proofs.Math.Nat.{le-div_iff_mul-le}
 use Rattle.game_model.specs.declared.game.Side.TheVariants.{Max, Min}
-use Rattle.game_model.specs.Game.{Distribution, choices_of, choice_of, no_distribution}
+use Rattle.game_model.specs.Game.{Distribution, choices_of, choice_of, choice_among, no_distribution}
 use Rattle.game_model.specs.Query.{Query, IsQuery, states, side_at}
 use Rattle.game_model.specs.Values.{optimum, weighted_sum}
 use Rattle.game_model.specs.Rounded.{down_value, down_step, DownChoice}
@@ -35,24 +35,41 @@ module _ (r : Quotient) (old new : ℕ → ℕ) (m : Distribution) (h : IsBetwee
 pub not-less : (x y : ℕ) → (x < y → IsTrue false) → y ≤ x
 not-less x y fails = elim (cases_lt x y) [ inl less ↦ absurd (true≢false (sym (fails less))) | inr rest ↦ rest ]
 
--- the loop is at a choice
-pub at-choice : (row choices : List Distribution) (count p : ℕ) → row ≡ choices → count ≡ length row → p < count
-    → p < length choices
-at-choice row choices count p same is_count before = omega (arith, ap length same)
+-- a choice is read, over values that rose before and may rise while it is read
+pub record ReadChoice (q : Query) (s i : ℕ) (r : Quotient) (old mid new : ℕ → ℕ) : Type 0 where
+  pub query : IsQuery q
+  pub inside : s < states q
+  pub chosen : i < length (choices_of q.game s)
+  pub between : IsBetween r mid new (choice_of q.game s i)
+  pub earlier : (t : ℕ) → old t ≤ mid t
+  pub later : (t : ℕ) → mid t ≤ new t
 
--- one more choice, over values that have risen
-module _ (q : Query) (s i : ℕ) (r : Quotient) (old mid new : ℕ → ℕ) (h : IsQuery q) (inside : s < states q)
-    (chosen : i < length (choices_of q.game s)) (between : IsBetween r mid new (choice_of q.game s i))
-    (earlier : (t : ℕ) → old t ≤ mid t) (later : (t : ℕ) → mid t ≤ new t) where
+-- the loop over a row is at a choice, and reads it
+pub read-choice : {q : Query} {s i count : ℕ} {row : List Distribution} {r : Quotient} {old mid new : ℕ → ℕ}
+    → IsQuery q → s < states q → row ≡ choices_of q.game s → count ≡ length row → i < count
+    → IsBetween r mid new (choice_among row i) → ((t : ℕ) → old t ≤ mid t) → ((t : ℕ) → mid t ≤ new t)
+    → ReadChoice q s i r old mid new
+read-choice {q} {s} {i} {count} {row} {r} {old} {mid} {new} query inside same is_count before read earlier later =
+    record {
+      query = query;
+      inside = inside;
+      chosen = omega (arith, ap length same);
+      between = subst (λ (ms : List Distribution). IsBetween r mid new (choice_among ms i)) same read;
+      earlier = earlier;
+      later = later;
+    }
+
+module _ {q : Query} {s i : ℕ} {r : Quotient} {old mid new : ℕ → ℕ} (e : ReadChoice q s i r old mid new) where
   pub value-old : down_value old (choice_of q.game s i) ≤ rounded_down r
   value-old = omega (
     arith,
-    down-low r mid new (choice_of q.game s i) between,
-    down_value-le q.game old mid (choice_of q.game s i) (choice_fits q s i h inside chosen) (λ t _. earlier t),
+    down-low r mid new (choice_of q.game s i) e.between,
+    down_value-le q.game old mid (choice_of q.game s i) (choice_fits q s i e.query e.inside e.chosen)
+        (λ t _. e.earlier t),
   )
 
   pub value-new : rounded_down r ≤ down_value new (choice_of q.game s i)
-  value-new = down-high r mid new (choice_of q.game s i) between
+  value-new = down-high r mid new (choice_of q.game s i) e.between
 
   pub low-gains : (best next : ℕ) → ((c : ℕ) → c < i → down_value old (choice_of q.game s c) ≤ best) → best ≤ next
       → rounded_down r ≤ next → (c : ℕ) → c < i + 1 → down_value old (choice_of q.game s c) ≤ next
@@ -64,14 +81,14 @@ module _ (q : Query) (s i : ℕ) (r : Quotient) (old mid new : ℕ → ℕ) (h :
   given-later c x there h' = omega (
     arith,
     h',
-    down_value-le q.game mid new (choice_of q.game s c) (choice_fits q s c h inside there) (λ t _. later t),
+    down_value-le q.game mid new (choice_of q.game s c) (choice_fits q s c e.query e.inside there) (λ t _. e.later t),
   )
 
   pub high-gains : (best next : ℕ) → ((c : ℕ) → c < i → best ≤ down_value mid (choice_of q.game s c)) → next ≤ best
       → next ≤ rounded_down r → (c : ℕ) → c < i + 1 → next ≤ down_value new (choice_of q.game s c)
   high-gains best next above less here =
       below_more (λ c. next ≤ down_value new (choice_of q.game s c)) i
-      (λ c l. given-later c next (omega arith) (omega (arith, above c l)))
+      (λ c l. given-later c next (omega (arith, e.chosen)) (omega (arith, above c l)))
       (omega (arith, value-new))
 
 -- the step of a free state, from its choices

@@ -28,7 +28,7 @@ get_or-edges_of (t ∷ ts) (w ∷ ws) zero d e same inside = refl
 get_or-edges_of (t ∷ ts) (w ∷ ws) (suc p) d e same inside = get_or-edges_of ts ws p d e (omega arith) (omega arith)
 
 -- the successors and weights of a choice, as they lie in the game
-module _ (m : Distribution) (h : IsDistribution m) (successors weights : List ℕ)
+module _ {m : Distribution} (h : IsDistribution m) {successors weights : List ℕ}
     (are_to : successors ≡ map (λ e. e.to) m.edges) (are_weights : weights ≡ map (λ e. e.weight) m.edges) where
   pub as_many : length weights ≡ length successors
   as_many = ap length are_weights ∙ length-map m.edges (λ (e : Edge). e.weight)
@@ -45,6 +45,6 @@ module _ (m : Distribution) (h : IsDistribution m) (successors weights : List �
   pub all-to : (P : ℕ → Type 0) → All (λ e. P e.to) m.edges → All P successors
   all-to P all = subst (All P) (sym are_to) (All-map P (λ (e : Edge). e.to) m.edges all)
 
-  pub sum-of-edges : (old new : ℕ → ℕ) (sum : ℕ) → IsSumBetween (edges_of successors weights) old new sum
+  pub sum-of-edges : {old new : ℕ → ℕ} {sum : ℕ} → IsSumBetween (edges_of successors weights) old new sum
       → IsSumBetween m.edges old new sum
-  sum-of-edges old new sum is = subst (λ (es : List Edge). IsSumBetween es old new sum) are-edges is
+  sum-of-edges {old} {new} {sum} is = subst (λ (es : List Edge). IsSumBetween es old new sum) are-edges is

@@ -5,7 +5,8 @@ use Rattle.std.specs.Prelude.{slice_index, slice_index_or, All}
 use Rattle.std.proofs.lemmas.List.{take_all}
 use Rattle.std.proofs.Math.Nat.{div-lt_iff_lt-mul, min-eq_right}
 use Rattle.game_model.specs.declared.game.Side.TheVariants.{Min}
-use Rattle.game_model.specs.Game.{Distribution, IsDistribution, no_distribution}
+use Rattle.game_model.specs.Game.{Distribution, IsDistribution, choices_of, choice_of, no_distribution}
+use Rattle.game_model.specs.Query.{Query, IsQuery, states}
 use Rattle.game_model.specs.Values.{better, optimum, weighted_sum}
 use Rattle.game_model.specs.Limits.{unit}
 use Rattle.game_model.specs.Rounded.{down_value, up_value}
@@ -36,7 +37,7 @@ down_value-most choice table h units =
     omega arith
 
 -- the least value of all, as the loop finds it from a top that the first value does not pass
-pub least-whole : (f : Distribution → ℕ) (xs : List Distribution) (p best top : ℕ) → 0 < length xs → length xs ≤ p
+least-whole : (f : Distribution → ℕ) (xs : List Distribution) (p best top : ℕ) → 0 < length xs → length xs ≤ p
     → f (slice_index_or xs 0 no_distribution) ≤ top → best ≡ fold (λ least y. better Min least (f y)) top (take p xs)
     → best ≡ optimum Min f xs
 least-whole f [] p best top some past first same = absurd (omega arith)
@@ -46,7 +47,13 @@ least-whole f (x ∷ xs) p best top some past first same =
     same ∙ ap (λ ys. fold (λ least y. better Min least (f y)) top ys) whole
     ∙ ap (λ a. fold (λ least y. better Min least (f y)) a xs) start
 
--- the loop has gone over all choices
-pub all-choices : (row choices : List Distribution) (count p : ℕ) → row ≡ choices → count ≡ length row → count ≤ p
-    → length choices ≤ p
-all-choices row choices count p same is_count past = omega (arith, ap length same)
+-- what a loop over the choices of a state finds, of values that are at most the unit
+pub least-found : (q : Query) (s p count best : ℕ) (row : List Distribution) (f : Distribution → ℕ) → IsQuery q
+    → s < states q → row ≡ choices_of q.game s → count ≡ length row → count ≤ p
+    → ((m : _) → IsDistribution m → f m ≤ unit)
+    → best ≡ fold (λ least y. better Min least (f y)) unit (take p (choices_of q.game s))
+    → best ≡ optimum Min f (choices_of q.game s)
+least-found q s p count best row f h inside is_row is_count past units =
+    let some : 0 < length (choices_of q.game s) = h.game.chosen s inside in
+    least-whole f (choices_of q.game s) p best unit some (omega (arith, ap length is_row))
+    (units (choice_of q.game s 0) (h.game.distribution s 0 inside some))

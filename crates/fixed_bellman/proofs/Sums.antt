@@ -1,6 +1,6 @@
 -- The weighted sum of edges over values that are read one after another.
 use Rattle.std.proofs.Common.{◌≡◌, ℕ, ◌+◌, ◌*◌, ◌^◌, ◌<◌, ◌≤◌, List, length, take, get_or, sum_by, sym, ap, ◌∙◌, subst}
-use Rattle.std.proofs.Common.{arith, inl, inr}
+use Rattle.std.proofs.Common.{arith, inl, inr, le_refl}
 use Rattle.std.specs.Prelude.{slice_index, All}
 use Rattle.std.proofs.lemmas.List.{get_or_past, take_all}
 use Rattle.std.proofs.lemmas.List.Sums.{sum_by_more, sum_by-take-le}
@@ -61,13 +61,19 @@ module _ (edges : List Edge) (p sum value : ℕ) (edge : Edge) (there : p < leng
 
   -- the sum so far and one more product
   pub IsSumBetween-more : (old mid new : ℕ → ℕ) → IsSumBetween (take p edges) old mid sum
-      → old edge.to ≤ value → ((t : ℕ) → mid t ≤ new t) → value ≤ new edge.to → value ≤ unit
-      → IsSumBetween (take (p + 1) edges) old new (sum + edge.weight * value)
-  IsSumBetween-more old mid new so_far low later high units = record {
-    low = low-more old so_far.low low;
+      → ((t : ℕ) → old t ≤ mid t) → mid edge.to ≤ value → ((t : ℕ) → mid t ≤ new t) → value ≤ new edge.to
+      → value ≤ unit → IsSumBetween (take (p + 1) edges) old new (sum + edge.weight * value)
+  IsSumBetween-more old mid new so_far earlier low later high units = record {
+    low = low-more old so_far.low (omega (arith, earlier edge.to, low));
     high = high-more mid new so_far.high later high;
     whole = units-more so_far.whole units;
   }
+
+  -- over values that stay
+  pub IsSumBetween-still : (v : ℕ → ℕ) → IsSumBetween (take p edges) v v sum → value ≡ v edge.to → value ≤ unit
+      → IsSumBetween (take (p + 1) edges) v v (sum + edge.weight * value)
+  IsSumBetween-still v so_far same units = IsSumBetween-more v v v so_far (λ t. le_refl (v t)) (omega (arith, same))
+      (λ t. le_refl (v t)) (omega (arith, same)) units
 
   pub narrow-fits : (old mid : ℕ → ℕ) → IsSumBetween (take p edges) old mid sum → value ≤ unit
       → sum_by (λ e. e.weight) edges * unit < 2 ^ 64 → sum + edge.weight * value < 2 ^ 64
@@ -82,8 +88,9 @@ IsSumBetween-all edges p sum old new past h = subst (λ es. IsSumBetween es old 
 -- Edges that lie as two lists, of successors and of weights: one more, and all.
 module _ (successors weights : List ℕ) (many : length weights ≡ length successors) (p sum : ℕ) where
   pub listed-more : (value : ℕ) → p < length successors → (old mid new : ℕ → ℕ)
-      → IsSumBetween (take p (edges_of successors weights)) old mid sum → old (get_or successors p 0) ≤ value
-      → ((t : ℕ) → mid t ≤ new t) → value ≤ new (get_or successors p 0) → value ≤ unit
+      → IsSumBetween (take p (edges_of successors weights)) old mid sum → ((t : ℕ) → old t ≤ mid t)
+      → mid (get_or successors p 0) ≤ value → ((t : ℕ) → mid t ≤ new t) → value ≤ new (get_or successors p 0)
+      → value ≤ unit
       → IsSumBetween (take (p + 1) (edges_of successors weights)) old new (sum + get_or weights p 0 * value)
   listed-more value inside = IsSumBetween-more (edges_of successors weights) p sum value
       (record { to = get_or successors p 0; weight = get_or weights p 0 })

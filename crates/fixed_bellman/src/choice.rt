@@ -1,14 +1,14 @@
-//! This module rounds the value of a choice over a table.
+//! This module rounds the value of a choice over a table, and takes the better of two values.
 
 ghost use Rattle.std.specs.Prelude.{◌≡◌, ◌+◌, ◌*◌, ◌<◌, ◌≤◌, length, slice_index, All};
 ghost use Rattle.game_model.specs.Game.{choices_of, choice_of};
 ghost use Rattle.game_model.specs.Query.{states};
-ghost use Rattle.game_model.specs.Values.{weighted_sum};
+ghost use Rattle.game_model.specs.Values.{better, weighted_sum};
 ghost use Rattle.game_model.specs.Limits.{unit};
 ghost use Rattle.game_model.specs.Rounded.{down_value, up_value};
 
 use crate::sum::table_quotient;
-use game_model::Question;
+use game_model::{Question, Side};
 
 /// Returns the value of a choice over a table, rounded down. Goals and dead states have choices too, and there also
 /// this is the value of the choice.
@@ -46,4 +46,14 @@ pub fn up_choice(question: &Question, state: u32, choice: u32, table: &[u64]) ->
 {
     question.known();
     table_quotient(&question.row(state), choice, table).up()
+}
+
+/// Returns the better of two values for a side.
+pub fn better(side: Side, one: u64, other: u64) -> u64
+    ensures { result ≡ better side one other }
+{
+    match side {
+        Side::Max => one.max(other),
+        Side::Min => one.min(other),
+    }
 }

@@ -25,7 +25,7 @@ mod values;
 
 pub use above::step_above;
 pub use bounds::{Bounds, step_bounds};
-pub use choice::{down_choice, up_choice};
+pub use choice::{better, down_choice, up_choice};
 pub use down::{down_state, raised_state};
 pub use given::{gives, holds, is_given};
 pub use quotient::Quotient;

@@ -1,30 +1,16 @@
 -- A table has one fault at most.
-use Rattle.std.proofs.Common.{◌≡◌, ℕ, ◌<◌, ◌≤◌, List, arith, refl, ap, subst, sym, ◌∙◌, inl, inr, ◌⊎◌}
+use Rattle.std.proofs.Common.{◌≡◌, ℕ, ◌≤◌, List, arith, refl, ap, subst, sym, ◌∙◌, inl, inr, ◌⊎◌}
 use Rattle.std.specs.Prelude.{slice_index}
-use Rattle.std.proofs.lemmas.Bool.{both_ways, cases_order}
+use Rattle.std.proofs.lemmas.Bool.{both_ways}
 use Rattle.game_model.specs.declared.game.Side.TheVariants.{Max, Min}
 use Rattle.game_model.specs.Query.{Query, is_goal}
-use Rattle.game_model.specs.Limits.{unit}
 use Rattle.game_model.specs.Rounded.{up_step}
 use Rattle.game_model.specs.Tables.{IsFirstOver}
+use Rattle.fixed_bellman.proofs.Firsts.{first-one, over-one}
 use Rattle.inductive_check.specs.declared.upper.UpperCause.{UpperCause}
 use Rattle.inductive_check.specs.declared.upper.UpperCause.TheVariants.{OverOne, Goal, Above, NoReply, Reply}
 use Rattle.inductive_check.specs.Held.{IsHeldAt, IsFirstUnheld}
 use Rattle.inductive_check.specs.Faults.{IsFirstAbove, IsCauseAt, IsNotInductiveAt, IsUpperFault}
-
--- one number is the first
-first-one : (P : ℕ → Type 0) (s t : ℕ) → ¬ P s → ¬ P t → ((r : ℕ) → r < s → P r) → ((r : ℕ) → r < t → P r) → s ≡ t
-first-one P s t here there before before' = elim (cases_order s t) [
-  | inl same ↦ same
-  | inr apart ↦ elim apart [
-    | inl less ↦ absurd (here (before' s less))
-    | inr more ↦ absurd (there (before t more))
-  ]
-]
-
-over-one : (table : List ℕ) (s t : ℕ) → IsFirstOver table s → IsFirstOver table t → s ≡ t
-over-one table s t h k = first-one (λ r. slice_index table r ≤ unit) s t (λ low. omega (arith, low, h.over))
-    (λ low. omega (arith, low, k.over)) h.before k.before
 
 above-one : (q : Query) (table : ℕ → ℕ) (s t : ℕ) → IsFirstAbove q table s → IsFirstAbove q table t → s ≡ t
 above-one q table s t h k = first-one (λ r. up_step q table r ≤ table r) s t (λ low. omega (arith, low, h.above))

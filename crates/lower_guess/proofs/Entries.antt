@@ -1,18 +1,14 @@
 -- The entries of the raised tables of one excess, at one state.
-use Rattle.std.proofs.Common.{◌≡◌, ℕ, zero, suc, ◌+◌, ◌-◌, ◌*◌, ◌^◌, ◌<◌, ◌≤◌, Bool, true, false, List, length, take}
-use Rattle.std.proofs.Common.{arith, refl, sym, subst, ap, ◌∙◌, le_refl, min}
+use Rattle.std.proofs.Common.{◌≡◌, ℕ, zero, suc, ◌+◌, ◌-◌, ◌<◌, ◌≤◌, Bool, true, false, arith, refl, sym, subst, ap}
+use Rattle.std.proofs.Common.{◌∙◌, min}
 use Rattle.std.specs.Prelude.{slice_index, slice_index_or}
 use Rattle.std.specs.Bool.{if◌then◌else◌}
 use Rattle.std.proofs.Math.Nat.{min-le_left, min-eq_left}
-use Rattle.game_model.specs.declared.game.Edge.{Edge}
-use Rattle.game_model.specs.Game.{Distribution, IsDistribution, choices_of, choice_of, edge_of}
 use Rattle.game_model.specs.Query.{states, is_goal, is_dead}
 use Rattle.game_model.specs.Limits.{unit}
-use Rattle.fixed_bellman.specs.Sums.{IsSumBetween}
-use Rattle.fixed_bellman.proofs.Sums.{IsSumBetween-more, sum-fits}
 use Rattle.lower_guess.specs.declared.guesses.Guesses.{Guesses}
 use Rattle.lower_guess.specs.LowerGuess.{raised_table}
-use Rattle.lower_guess.specs.inside.OfGuesses.{first_entry_of, entry_of, step_of, best_of, choice_at, AreRefusedOf}
+use Rattle.lower_guess.specs.inside.OfGuesses.{first_entry_of, entry_of, step_of, best_of, AreRefusedOf}
 use Rattle.lower_guess.proofs.Refused.{fallen-refused}
 
 pub entry-first : (g : Guesses) (j s : ℕ) → j ≡ 0 → entry_of g j s ≡ first_entry_of g s
@@ -57,28 +53,3 @@ entry-units g (suc j) s = omega (arith, min-le_left (entry_of g j s) (step_of g 
 pub falls-refused : (g : Guesses) (s : ℕ) → s < states g.question.now → step_of g 4 s < entry_of g 4 s → AreRefusedOf g
 falls-refused g s inside falls =
     fallen-refused g.question.now g.zero.now (slice_index g.base.now) g.excess g.posed s inside falls
-
--- the sum over a choice as the loop has it, and one more edge
-module _ (g : Guesses) (steps s c p count sum value : ℕ) (edge : Edge) (game : List (List Distribution))
-    (same : game ≡ g.question.now.game) (is_count : count ≡ length (choice_of game s c).edges) (before : p < count)
-    (is_edge : edge ≡ edge_of game s c p) (so_far : IsSumBetween (take p (choice_at g s c).edges) (entry_of g steps)
-    (entry_of g steps) sum) (is_value : value ≡ entry_of g steps edge.to) where
-  inside : p < length (choice_at g s c).edges
-  inside = omega (arith, is_count, ap (λ (games : List (List Distribution)). length (choice_of games s c).edges) same)
-
-  is : edge ≡ edge_of g.question.now.game s c p
-  is = is_edge ∙ ap (λ (games : List (List Distribution)). edge_of games s c p) same
-
-  pub sum-more : IsSumBetween (take (p + 1) (choice_at g s c).edges) (entry_of g steps) (entry_of g steps)
-      (sum + edge.weight * value)
-  sum-more =
-      IsSumBetween-more (choice_at g s c).edges p sum value edge inside is (entry_of g steps) (entry_of g steps)
-      (entry_of g steps) so_far (omega (arith, is_value)) (λ t. le_refl (entry_of g steps t))
-      (omega (arith, is_value)) (omega (arith, is_value, entry-units g steps edge.to))
-
-  pub sum-more-fits : s < states g.question.now → c < length (choices_of g.question.now.game s)
-      → sum + edge.weight * value < 2 ^ 128
-  sum-more-fits state choice =
-      let fine : IsDistribution (choice_at g s c) = g.posed.game.distribution s c state choice in
-      sum-fits (choice_at g s c).edges p sum value edge inside is so_far.whole
-      (omega (arith, is_value, entry-units g steps edge.to)) (omega (arith, fine.sums, fine.small))

@@ -1,33 +1,25 @@
 -- There is one layered plan of a table, and one lower guess.
-use Rattle.std.proofs.Common.{◌≡◌, ℕ, zero, suc, ◌<◌, ◌≤◌, Bool, List, arith, sym, subst, ap, ◌∙◌, inl, inr, Option}
-use Rattle.std.proofs.Common.{Some, None}
+use Rattle.std.proofs.Common.{◌≡◌, ℕ, zero, suc, ◌<◌, Bool, List, arith, sym, subst, ap, ◌∙◌, inl, inr, Option, Some}
+use Rattle.std.proofs.Common.{None}
 use Rattle.std.specs.Prelude.{slice_index, slice_index_or}
-use Rattle.std.proofs.lemmas.Bool.{cases_lt}
 use Rattle.std.proofs.lemmas.List.{ext_get_or}
 use Rattle.game_model.specs.declared.game.Side.{Side}
 use Rattle.game_model.specs.declared.game.Side.TheVariants.{Max, Min}
 use Rattle.game_model.specs.Query.{Query, states, side_at}
 use Rattle.game_model.specs.Tables.{IsTable}
 use Rattle.rank_certificate.specs.Layers.{AreLayered}
-use Rattle.rank_certificate.specs.Carrying.{IsCarried, IsFirstCarrying, IsChosen, IsChosenAt, IsLayeredPlan}
-use Rattle.lower_guess.specs.LowerGuess.{excess, raised_table, IsFirstAt, IsFirstGuess, IsRaised, IsUnraised}
-use Rattle.lower_guess.specs.LowerGuess.{IsLowerGuess}
-use Rattle.lower_guess.proofs.Refused.{IsTable-one}
-
-first-least : (q : Query) (value : ℕ → ℕ) (among : ℕ → Type 0) (s c d : ℕ) → IsFirstCarrying q value None among s c
-    → IsFirstCarrying q value None among s d → c ≤ d
-first-least q value among s c d h k = elim (cases_lt d c) [
-  | inl less ↦ absurd (h.before d less k.carries)
-  | inr rest ↦ rest
-]
+use Rattle.rank_certificate.specs.Carrying.{Carries, IsCarried, IsChosen, IsChosenAt, IsLayeredPlan}
+use Rattle.fixed_bellman.proofs.Firsts.{first-one, IsTable-one}
+use Rattle.lower_guess.specs.LowerGuess.{excess, raised_table, IsRefused, AreRefused, IsFirstAt, IsFirstGuess}
+use Rattle.lower_guess.specs.LowerGuess.{IsRaised, IsUnraised, IsLowerGuess}
 
 chosen-one : (q : Query) (value : ℕ → ℕ) (among : ℕ → Type 0) (s : ℕ) (side : Side) (a b : Option ℕ)
     → IsChosen side q value None among s a → IsChosen side q value None among s b → a ≡ b
 chosen-one q value among s Max None b h k = absurd h
 chosen-one q value among s Max (Some c) None h k = absurd k
 chosen-one q value among s Max (Some c) (Some d) h k =
-    let same : c ≡ d = omega (arith, first-least q value among s c d h k, first-least q value among s d c k h) in
-    ap (λ (n : ℕ). Some n) same
+    ap (λ (n : ℕ). Some n) (first-one (λ n. ¬ Carries q value None among s n) c d (λ no. no h.carries)
+    (λ no. no k.carries) h.before k.before)
 chosen-one q value among s Min a b h k = h ∙ sym k
 
 chosen-at-one : (q : Query) (value : ℕ → ℕ) (s r : ℕ) (a b : Option ℕ) → IsChosenAt q value None s r a
@@ -65,30 +57,19 @@ layered-one q values choices ranks ranks' h k = ext_get_or 0 ranks ranks' (h.as_
     omega (arith, one.least (slice_index ranks' s) other.within, other.least (slice_index ranks s) one.within))
 
 module _ (q : Query) (marks : List Bool) (base : ℕ → ℕ) where
-  steps-least : (e : ℕ) (table other : List ℕ) (h : IsFirstAt q marks base e table) (k : IsFirstAt q marks base e other)
-      → h.steps ≤ k.steps
-  steps-least e table other h k = elim (cases_lt k.steps h.steps) [
-    | inl less ↦ absurd (h.refused k.steps less other k.entries k.ranked)
-    | inr rest ↦ rest
-  ]
-
   at-one : (e : ℕ) (table other : List ℕ) → IsFirstAt q marks base e table
       → IsFirstAt q marks base e other → table ≡ other
   at-one e table other h k =
-      let same : h.steps ≡ k.steps = omega (arith, steps-least e table other h k, steps-least e other table k h) in
+      let same : h.steps ≡ k.steps = first-one (λ j. IsRefused q (raised_table q marks base e j)) h.steps k.steps
+      (λ no. no table h.entries h.ranked) (λ no. no other k.entries k.ranked) h.refused k.refused in
       IsTable-one q (raised_table q marks base e k.steps) table other
       (subst (λ j. IsTable q (raised_table q marks base e j) table) same h.entries) k.entries
 
-  place-least : (table other : List ℕ) (h : IsFirstGuess q marks base table) (k : IsFirstGuess q marks base other)
-      → h.place ≤ k.place
-  place-least table other h k = elim (cases_lt k.place h.place) [
-    | inl less ↦ absurd (h.earlier k.place less k.here.steps k.here.few other k.here.entries k.here.ranked)
-    | inr rest ↦ rest
-  ]
-
-  first-one : (table other : List ℕ) → IsFirstGuess q marks base table → IsFirstGuess q marks base other → table ≡ other
-  first-one table other h k =
-      let same : h.place ≡ k.place = omega (arith, place-least table other h k, place-least other table k h) in
+  guess-one : (table other : List ℕ) → IsFirstGuess q marks base table → IsFirstGuess q marks base other → table ≡ other
+  guess-one table other h k =
+      let same : h.place ≡ k.place = first-one (λ i. AreRefused q marks base (excess i)) h.place k.place
+      (λ no. no h.here.steps h.here.few table h.here.entries h.here.ranked)
+      (λ no. no k.here.steps k.here.few other k.here.entries k.here.ranked) h.earlier k.earlier in
       at-one (excess k.place) table other (subst (λ i. IsFirstAt q marks base (excess i) table) same h.here) k.here
 
 -- whichever choices were handed in, a raised table is found, or none
@@ -105,7 +86,7 @@ module _ (q : Query) (marks : List Bool) (base : List ℕ) where
       (ranks ranks' : List ℕ) → IsLowerGuess q marks base given values choices ranks
       → IsLowerGuess q marks base given' values' choices' ranks' → values ≡ values'
   one-lower-table given given' values values' choices choices' ranks ranks' (inl h) (inl k) =
-      first-one q marks (slice_index base) values values' h.first k.first
+      guess-one q marks (slice_index base) values values' h.first k.first
   one-lower-table given given' values values' choices choices' ranks ranks' (inl h) (inr k) =
       absurd (apart given' values values' choices choices' ranks ranks' h k)
   one-lower-table given given' values values' choices choices' ranks ranks' (inr h) (inl k) =
@@ -119,7 +100,7 @@ module _ (q : Query) (marks : List Bool) (base : List ℕ) where
       → IsLowerGuess q marks base given values' choices' ranks'
       → (values ≡ values') × (choices ≡ choices') × (ranks ≡ ranks')
   one-lower-guess given values values' choices choices' ranks ranks' (inl h) (inl k) =
-      let same : values ≡ values' = first-one q marks (slice_index base) values values' h.first k.first in
+      let same : values ≡ values' = guess-one q marks (slice_index base) values values' h.first k.first in
       let plan : IsLayeredPlan q values' choices ranks =
       subst (λ list. IsLayeredPlan q list choices ranks) same h.plan in (
         same,

@@ -3,7 +3,6 @@ use Rattle.std.proofs.Common.{◌≡◌, ℕ, zero, suc, ◌+◌, ◌-◌, ◌*�
 use Rattle.std.proofs.Common.{sym, subst, ap, ◌∙◌, le_refl, min, Option, add-one, inl, inr}
 use Rattle.std.specs.Prelude.{slice_index, slice_index_or}
 use Rattle.std.specs.Bool.{if◌then◌else◌}
-use Rattle.std.proofs.lemmas.List.{ext_get_or}
 use Rattle.std.proofs.Math.Nat.{min-le_right, min-eq_left, mul-le-mul_left, mul-le-mul_right, one-le-pow}
 use Rattle.game_model.specs.Query.{Query, IsQuery, states, is_goal}
 use Rattle.game_model.specs.Values.{denominator}
@@ -16,6 +15,7 @@ use Rattle.game_model.proofs.Choices.{AreChoicesOf, AreChoicesOf-choices_of, den
 use Rattle.game_laws.proofs.Steps.{down_step-le}
 use Rattle.game_model.specs.Bounds.{IsNear}
 use Rattle.game_model.specs.Tables.{IsTable}
+use Rattle.fixed_bellman.proofs.Firsts.{IsTable-one}
 use Rattle.rank_certificate.specs.Carrying.{CanBeRanked, Stands}
 use Rattle.lower_guess.specs.LowerGuess.{most_steps, first_raised, lesser_step, raised_table, IsRefused}
 use Rattle.lower_guess.specs.LowerGuess.{AreRefused}
@@ -36,12 +36,6 @@ lesser_step-same : (q : Query) (v w : ℕ → ℕ) → IsQuery q → ((t : ℕ) 
     → lesser_step q v s ≡ lesser_step q w s
 lesser_step-same q v w posed same s inside =
     ap (λ x. min x (down_step q v s)) (same s inside) ∙ ap (min (w s)) (down_step-same q v w posed same s)
-
--- lists with the same entries
-pub IsTable-one : (q : Query) (entries : ℕ → ℕ) (table other : List ℕ) → IsTable q entries table
-    → IsTable q entries other → table ≡ other
-IsTable-one q entries table other h k = ext_get_or 0 table other (h.many ∙ sym k.many)
-    (λ s inside. let there : s < states q = omega (arith, inside, h.many) in h.each s there ∙ sym (k.each s there))
 
 module _ (q : Query) (marks : List Bool) (base : ℕ → ℕ) (e : ℕ) (posed : IsQuery q) where
   pub IsTable-first : (table : List ℕ) → IsTable q (first_raised q marks base e) table

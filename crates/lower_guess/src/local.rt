@@ -3,13 +3,12 @@
 ghost use Rattle.std.specs.Prelude.{◌≡◌, ◌<◌, length, IfSome, IsTrue};
 ghost use Rattle.game_model.specs.Game.{choices_of};
 ghost use Rattle.game_model.specs.Query.{states};
-ghost use Rattle.game_model.specs.Values.{better};
 ghost use Rattle.game_model.specs.Rounded.{down_value};
 ghost use Rattle.lower_guess.specs.inside.OfGuesses.{entry_of, step_of, best_of, choice_at, IsSumOf, AreRefusedOf};
 
 use crate::guesses::{Guesses, MOST_STEPS};
-use fixed_bellman::Quotient;
-use game_model::{Side, UNIT};
+use fixed_bellman::{Quotient, better};
+use game_model::UNIT;
 
 /// This many states, evenly spread, are checked for a fall of the last table.
 const MOST_TRIES: u32 = 256;
@@ -130,15 +129,5 @@ impl Guesses<'_> {
             sum += edge.weight * u128::from(entry);
         }
         Some(sum)
-    }
-}
-
-/// Returns the better of two values for a side.
-fn better(side: Side, one: u64, other: u64) -> u64
-    ensures { result ≡ better side one other }
-{
-    match side {
-        Side::Max => one.max(other),
-        Side::Min => one.min(other),
     }
 }

@@ -1,9 +1,7 @@
 -- States that are carried into others.
-use Rattle.std.proofs.Common.{◌≡◌, ℕ, zero, suc, ◌+◌, ◌-◌, ◌*◌, ◌<◌, ◌≤◌, List, length, arith, subst, sym, inl, inr}
+use Rattle.std.proofs.Common.{◌≡◌, ℕ, zero, suc, ◌+◌, ◌-◌, ◌<◌, ◌≤◌, List, length, arith, subst, sym, inl, inr}
 use Rattle.std.proofs.Common.{Option, Some, None, add-one}
 use Rattle.std.specs.Prelude.{slice_index_or}
-use Rattle.std.proofs.lemmas.Bool.{cases_lt}
-use Rattle.std.proofs.Math.Nat.{mul-le-mul_right}
 use Rattle.game_model.specs.declared.game.Side.{Side}
 use Rattle.game_model.specs.declared.game.Side.TheVariants.{Max, Min}
 use Rattle.game_model.specs.Game.{Distribution, choices_of, choice_of, no_edge}
@@ -11,15 +9,6 @@ use Rattle.game_model.specs.Query.{Query, side_at}
 use Rattle.rank_certificate.specs.Ranking.{NeedsRank}
 use Rattle.rank_certificate.specs.Layers.{LeadsInto}
 use Rattle.rank_certificate.specs.Carrying.{Carries, IsCarriedBy, IsCarried, IsFirstCarrying, IsChosen, IsChosenAt}
-
--- what is given is at most what a quotient rounds down to
-pub at-most-down : (value total sum down : ℕ) → value * total ≤ sum → sum < (down + 1) * total → value ≤ down
-at-most-down value total sum down enough less = elim (cases_lt down value) [
-  | inl more ↦
-      let next : down + 1 ≤ value = omega (arith, more) in
-      absurd (omega (arith, mul-le-mul_right total next, enough, less))
-  | inr most ↦ most
-]
 
 -- where it leads into some states of its value it leads into more
 pub LeadsInto-more : (value : ℕ → ℕ) (among more : ℕ → Type 0) (s : ℕ) (m : Distribution)

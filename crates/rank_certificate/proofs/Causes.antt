@@ -1,5 +1,5 @@
 -- Values, choices and ranks have one fault at most.
-use Rattle.std.proofs.Common.{◌≡◌, ℕ, ◌<◌, ◌≤◌, ◌⊎◌, List, arith, refl, ap, subst, sym, ◌∙◌, inl, inr, Option, Some}
+use Rattle.std.proofs.Common.{◌≡◌, ℕ, ◌⊎◌, List, arith, refl, ap, subst, sym, ◌∙◌, inl, inr, Option, Some}
 use Rattle.std.proofs.Common.{None}
 use Rattle.std.specs.Prelude.{slice_index, slice_index_or}
 use Rattle.std.proofs.lemmas.Bool.{both_ways, cases_order}
@@ -7,25 +7,15 @@ use Rattle.game_model.specs.declared.game.Side.{Side}
 use Rattle.game_model.specs.declared.game.Side.TheVariants.{Max, Min}
 use Rattle.game_model.specs.Game.{Distribution, choice_of}
 use Rattle.game_model.specs.Query.{Query, is_goal, is_dead, side_at}
-use Rattle.game_model.specs.Limits.{unit}
 use Rattle.game_model.specs.Ranks.{IsRankedChoice}
 use Rattle.game_model.specs.Tables.{IsFirstOver}
+use Rattle.fixed_bellman.proofs.Firsts.{first-one, over-one}
 use Rattle.rank_certificate.specs.declared.check.RankCause.{RankCause}
 use Rattle.rank_certificate.specs.declared.check.RankCause.TheVariants.{Value, Choice, Short, NoStep}
 use Rattle.rank_certificate.specs.Ranking.{IsEnough, IsShort, NeedsRank, HasChoice, IsRankedAt}
 use Rattle.rank_certificate.specs.Faults.{IsMisvalued, HasToRank, IsNextToRank, IsLackOf, IsCauseAt, IsFirstUnranked}
 use Rattle.rank_certificate.specs.Faults.{IsRankFault}
 use Rattle.rank_certificate.proofs.States.{given-choice, ranked-given, no_choice-unranked, misvalued-unranked}
-
--- one number is the first
-first-one : (P : ℕ → Type 0) (s t : ℕ) → ¬ P s → ¬ P t → ((r : ℕ) → r < s → P r) → ((r : ℕ) → r < t → P r) → s ≡ t
-first-one P s t here there before before' = elim (cases_order s t) [
-  | inl same ↦ same
-  | inr apart ↦ elim apart [
-    | inl less ↦ absurd (here (before' s less))
-    | inr more ↦ absurd (there (before t more))
-  ]
-]
 
 -- a choice that lacks something is not ranked
 lack-unranked : (value rank : ℕ → ℕ) (s : ℕ) (m : Distribution) (c : ℕ) (cause : RankCause)
@@ -128,10 +118,6 @@ module _ (q : Query) (values : List ℕ) (choices : List (Option ℕ)) (ranks : 
             (subst (λ r. IsCauseAt q (slice_index values) (slice_index ranks) choices r cause) same h.caused) k.caused,
       )
 
-  over-one : (s t : ℕ) → IsFirstOver values s → IsFirstOver values t → s ≡ t
-  over-one s t h k = first-one (λ r. slice_index values r ≤ unit) s t (λ low. omega (arith, low, h.over))
-      (λ low. omega (arith, low, k.over)) h.before k.before
-
   over-unranked : (s t : ℕ) (cause : RankCause) → IsFirstOver values s
       → ¬ IsFirstUnranked q values choices ranks t cause
   over-unranked s t cause h k = omega (arith, k.units s 0 h.inside, h.over)
@@ -150,7 +136,7 @@ module _ (q : Query) (values : List ℕ) (choices : List (Option ℕ)) (ranks : 
       → IsRankFault q values choices ranks t other → (s ≡ t) × (cause ≡ other)
   rank_fault-one s t cause other h k = elim (kind s cause h) [
     | inl over ↦ elim (kind t other k) [
-      | inl over' ↦ (over-one s t over.1 over'.1, over.0 ∙ sym over'.0)
+      | inl over' ↦ (over-one values s t over.1 over'.1, over.0 ∙ sym over'.0)
       | inr first ↦ absurd (over-unranked s t other over.1 first)
     ]
     | inr first ↦ elim (kind t other k) [

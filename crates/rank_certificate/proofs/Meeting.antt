@@ -33,12 +33,6 @@ module _ (q : Query) (s c : ℕ) (row : List Distribution) (successors : List �
       (posed.game.inside s c inside (omega (arith, chosen, ap length same)) p no_edge here)
 
   module _ (value : ℕ → ℕ) (among : ℕ → Type 0) where
-    pub leads-met : (p : ℕ) → p < length successors → IsMet value among s (slice_index_or successors p 0)
-        → LeadsInto value among s (choice_of q.game s c)
-    leads-met p l met =
-        let here : p < length (choice_of q.game s c).edges = omega (arith, l, as_many) in
-        record { place = p; inside = here; onward = subst (IsMet value among s) (successor-at p here) met }
-
     pub met-none : ((p : ℕ) → p < length successors → ¬ IsMet value among s (slice_index_or successors p 0))
         → ¬ LeadsInto value among s (choice_of q.game s c)
     met-none none h = none h.place (omega (arith, h.inside, as_many))

@@ -1,17 +1,12 @@
 -- The entries of the guesses of one excess.
-use Rattle.std.proofs.Common.{◌≡◌, ℕ, zero, suc, ◌+◌, ◌-◌, ◌*◌, ◌^◌, ◌<◌, ◌≤◌, true, false, List, length, take, arith}
-use Rattle.std.proofs.Common.{refl, sym, subst, ap, ◌∙◌, le_refl}
+use Rattle.std.proofs.Common.{◌≡◌, ℕ, zero, suc, ◌+◌, ◌-◌, ◌<◌, ◌≤◌, true, false, arith, refl, sym, subst, ◌∙◌}
 use Rattle.std.specs.Prelude.{slice_index, slice_index_or}
-use Rattle.game_model.specs.declared.game.Edge.{Edge}
-use Rattle.game_model.specs.Game.{Distribution, IsDistribution, choices_of, choice_of, edge_of}
 use Rattle.game_model.specs.Query.{states, is_goal, is_dead}
 use Rattle.game_model.specs.Limits.{unit}
 use Rattle.game_model.specs.Rounded.{up_step}
-use Rattle.fixed_bellman.specs.Sums.{IsSumBetween}
-use Rattle.fixed_bellman.proofs.Sums.{IsSumBetween-more, sum-fits}
 use Rattle.upper_guess.specs.declared.guesses.Guesses.{Guesses}
 use Rattle.upper_guess.specs.Guess.{guess_table}
-use Rattle.upper_guess.specs.inside.OfGuesses.{first_entry_of, entry_of, choice_at, best_of, IsRefusedOf}
+use Rattle.upper_guess.specs.inside.OfGuesses.{first_entry_of, entry_of, best_of, IsRefusedOf}
 use Rattle.upper_guess.proofs.Steps.{up_step-units}
 use Rattle.upper_guess.proofs.Accepting.{guess-units}
 
@@ -39,7 +34,7 @@ pub entry-free : (g : Guesses) (j s : ℕ) → 0 < j → is_goal g.question.now 
 entry-free g j s h goal dead = entry-later g j s h ∙ rw (goal, dead) refl
 
 -- each entry is at most the unit
-entry-units : (g : Guesses) (j s : ℕ) → entry_of g j s ≤ unit
+pub entry-units : (g : Guesses) (j s : ℕ) → entry_of g j s ≤ unit
 unfolding guess_table
 entry-units g zero s =
     guess-units (slice_index_or g.zero.now s false) (is_goal g.question.now s) (slice_index g.lower.now s + g.excess)
@@ -53,28 +48,3 @@ refused-at g j s inside above =
     entry-later g (j + 1) s (omega arith) in
     let same : j + 1 - 1 ≡ j = omega arith in
     (s, inside, subst (λ n. entry_of g j s < up_step g.question.now (entry_of g n) s) same (omega (arith, above, step)))
-
--- the sum over a choice as the loop has it, and one more edge
-module _ (g : Guesses) (steps s c p count sum value : ℕ) (edge : Edge) (game : List (List Distribution))
-    (same : game ≡ g.question.now.game) (is_count : count ≡ length (choice_of game s c).edges) (before : p < count)
-    (is_edge : edge ≡ edge_of game s c p) (so_far : IsSumBetween (take p (choice_at g s c).edges) (entry_of g steps)
-    (entry_of g steps) sum) (is_value : value ≡ entry_of g steps edge.to) where
-  inside : p < length (choice_at g s c).edges
-  inside = omega (arith, is_count, ap (λ (games : List (List Distribution)). length (choice_of games s c).edges) same)
-
-  is : edge ≡ edge_of g.question.now.game s c p
-  is = is_edge ∙ ap (λ (games : List (List Distribution)). edge_of games s c p) same
-
-  pub sum-more : IsSumBetween (take (p + 1) (choice_at g s c).edges) (entry_of g steps) (entry_of g steps)
-      (sum + edge.weight * value)
-  sum-more =
-      IsSumBetween-more (choice_at g s c).edges p sum value edge inside is (entry_of g steps) (entry_of g steps)
-      (entry_of g steps) so_far (omega (arith, is_value)) (λ t. le_refl (entry_of g steps t))
-      (omega (arith, is_value)) (omega (arith, is_value, entry-units g steps edge.to))
-
-  pub sum-more-fits : s < states g.question.now → c < length (choices_of g.question.now.game s)
-      → sum + edge.weight * value < 2 ^ 128
-  sum-more-fits state choice =
-      let fine : IsDistribution (choice_at g s c) = g.posed.game.distribution s c state choice in
-      sum-fits (choice_at g s c).edges p sum value edge inside is so_far.whole
-      (omega (arith, is_value, entry-units g steps edge.to)) (omega (arith, fine.sums, fine.small))

@@ -3,14 +3,13 @@
 ghost use Rattle.std.specs.Prelude.{◌≡◌, ◌<◌, ◌≤◌, length, IfSome, IsTrue};
 ghost use Rattle.game_model.specs.Game.{choices_of};
 ghost use Rattle.game_model.specs.Query.{states};
-ghost use Rattle.game_model.specs.Values.{better};
 ghost use Rattle.game_model.specs.Rounded.{up_value};
 ghost use Rattle.upper_guess.specs.Guess.{most_steps};
 ghost use Rattle.upper_guess.specs.inside.OfGuesses.{entry_of, choice_at, best_of, IsSumOf, IsRefusedOf};
 
 use crate::guesses::Guesses;
-use fixed_bellman::Quotient;
-use game_model::{Side, UNIT};
+use fixed_bellman::{Quotient, better};
+use game_model::UNIT;
 
 /// If the question has fewer states than this, a test at one state may look into as many states as this. But it looks
 /// into no more than twice as many as the up steps of the table would, because a table would also have to be allocated.
@@ -102,15 +101,5 @@ impl Guesses<'_> {
             sum += edge.weight * u128::from(entry);
         }
         Some(sum)
-    }
-}
-
-/// Returns the better of two values for a side.
-fn better(side: Side, one: u64, other: u64) -> u64
-    ensures { result ≡ better side one other }
-{
-    match side {
-        Side::Max => one.max(other),
-        Side::Min => one.min(other),
     }
 }

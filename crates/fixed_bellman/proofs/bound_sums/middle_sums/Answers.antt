@@ -1,22 +1,12 @@
-use Rattle.std.proofs.Common.{ℕ, ◌<◌, List, length, get_or, arith}
-use Rattle.game_model.specs.declared.game.Edge.{Edge}
-use Rattle.fixed_bellman.specs.Sums.{edges_of}
-use Rattle.fixed_bellman.proofs.Edges.{length-edges_of, get_or-edges_of}
-use Rattle.fixed_bellman.proofs.BoundSums.{AreSums-more, AreSums-all}
+use Rattle.fixed_bellman.proofs.BoundSums.{listed-sums-more, AreSums-all}
 use Rattle.fixed_bellman.proofs.bound_sums.middle_sums.Goals as goal
 
 pub loop-place-preserved : goal.loop-place-preserved
 loop-place-preserved c =
-    let i : ℕ = c.loop-place.place in
-    let ts : List ℕ = c.args.successors.now in
-    let ws : List ℕ = c.args.weights.now in
-    let edges : List Edge = edges_of ts ws in
-    let there : i < length edges = omega (arith, length-edges_of ts ws c.requires.many, c.loop-place-test.true) in
-    let most = AreSums-more edges c.args.table.now i c.loop-place.lower c.loop-place.upper (get_or ws i 0)
-    (get_or ts i 0) there (get_or-edges_of ts ws i 0 0 c.requires.many c.loop-place-test.true)
-    (c.requires.inside i 0 c.loop-place-test.true) c.requires.units c.loop-place.invariant in
     rw (c.from.ensures, c.from-in-loop-place.ensures, c.from-in-loop-place-2.ensures, c.from-in-loop-place-3.ensures)
-    most
+    (listed-sums-more c.args.successors.now c.args.weights.now c.args.table.now c.loop-place.place
+    c.loop-place.lower c.loop-place.upper c.requires.many c.requires.inside c.requires.units c.loop-place-test.true
+    c.loop-place.invariant)
 
 pub returns : goal.returns
 returns c = AreSums-all c.args.successors.now c.args.weights.now c.args.table.now c.loop-place.place c.loop-place.lower

@@ -1,4 +1,4 @@
-use Rattle.std.proofs.Common.{List, ap, ◌∙◌}
+use Rattle.std.proofs.Common.{◌≡◌, ◌<◌, List, ap, ◌∙◌}
 use Rattle.std.specs.Prelude.{slice_index}
 use Rattle.game_model.specs.Game.{Distribution, choice_of, choice_among}
 use Rattle.game_model.specs.Values.{weighted_sum}
@@ -7,18 +7,17 @@ use Rattle.game_model.proofs.Rising.{total-pos}
 use Rattle.fixed_bellman.proofs.Rounds.{down-below, down-greatest}
 use Rattle.fixed_bellman.proofs.choice.down_choice.Goals as goal
 
-pub returns-clause-below : goal.returns-clause-below
-returns-clause-below c =
+pub returns : goal.returns
+returns c =
     let m = choice_of c.args.question.now.game c.args.state c.args.choice in
-    down-below (weighted_sum (slice_index c.args.table.now) m.edges) m.total c.down.result
-    (total-pos m (c.known.ensures.game.distribution c.args.state c.args.choice c.requires.state c.requires.choice))
-    (c.down.ensures.value ∙ c.table_quotient.ensures.down ∙ ap (λ (ms : List Distribution).
-    down_value (slice_index c.args.table.now) (choice_among ms c.args.choice)) c.row.ensures)
-
-pub returns-clause-greatest : goal.returns-clause-greatest
-returns-clause-greatest c =
-    let m = choice_of c.args.question.now.game c.args.state c.args.choice in
-    down-greatest (weighted_sum (slice_index c.args.table.now) m.edges) m.total c.down.result
-    (total-pos m (c.known.ensures.game.distribution c.args.state c.args.choice c.requires.state c.requires.choice))
-    (c.down.ensures.value ∙ c.table_quotient.ensures.down ∙ ap (λ (ms : List Distribution).
-    down_value (slice_index c.args.table.now) (choice_among ms c.args.choice)) c.row.ensures)
+    let sum = weighted_sum (slice_index c.args.table.now) m.edges in
+    let positive : 0 < m.total =
+    total-pos m (c.known.ensures.game.distribution c.args.state c.args.choice c.requires.state c.requires.choice) in
+    let is : c.down.result ≡ down_value (slice_index c.args.table.now) m = c.down.ensures.value
+    ∙ c.table_quotient.ensures.down ∙ ap (λ (ms : List Distribution). down_value (slice_index c.args.table.now)
+    (choice_among ms c.args.choice)) c.row.ensures in record {
+      value = is;
+      units = c.down.ensures.units;
+      below = down-below sum m.total c.down.result positive is;
+      greatest = down-greatest sum m.total c.down.result positive is;
+    }

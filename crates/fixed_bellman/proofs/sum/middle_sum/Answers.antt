@@ -1,4 +1,3 @@
-use Rattle.std.proofs.Common.{ℕ, ◌≤◌, List, get_or, arith}
 use Rattle.fixed_bellman.proofs.Sums.{listed-more, listed-all}
 use Rattle.fixed_bellman.proofs.sum.middle_sum.Goals as goal
 
@@ -7,20 +6,16 @@ loop-place-preserved g c =
     let laws = g.met.V.Values in
     let values = c.args.values.now in
     let seen = g.V.Values.seen values in
-    let i : ℕ = c.loop-place.place in
-    let ts : List ℕ = c.args.successors.now in
     let start = c.args.pass.now in
     let mid = c.loop-place.pass in
     let new = c.value.new.pass in
     let w = c.value.ensures in
-    let h = c.loop-place.invariant in
-    let low : seen start (get_or ts i 0) ≤ c.value.result =
-    omega (arith, laws.rises values start mid h.onward (get_or ts i 0), w.low) in
-    record {
+    let h = c.loop-place.invariant in record {
       onward = laws.further values start mid new h.onward w.onward;
       sum = rw (c.from.ensures, c.from-in-loop-place.ensures)
-          (listed-more ts c.args.weights.now c.requires.many i c.loop-place.sum c.value.result c.loop-place-test.true
-          (seen start) (seen mid) (seen new) h.sum low (laws.rises values mid new w.onward) w.high w.units);
+          (listed-more c.args.successors.now c.args.weights.now c.requires.many c.loop-place.place c.loop-place.sum
+          c.value.result c.loop-place-test.true (seen start) (seen mid) (seen new) h.sum
+          (laws.rises values start mid h.onward) w.low (laws.rises values mid new w.onward) w.high w.units);
     }
 
 pub returns-clause-sum : goal.returns-clause-sum

@@ -9,24 +9,20 @@ unwrap-requires c =
     numbers-some c.args.question.now c.args.values.now c.args.choices.now some.0 c.known.ensures some.1 _ _
     c.in_ok-growth.ensures _ c.in_ok-ranks.ranks (rw c.deref.ensures.value at c.in_ok-ranks.ensures)
 
-pub returns-clause-ranked : goal.returns-clause-ranked
-returns-clause-ranked c =
+pub returns : goal.returns
+returns c =
+    let q = c.args.question.now in
+    let values = c.args.values.now in
+    let choices = c.args.choices.now in
     let some = c.requires.rankable in
     let found : List (Option ℕ) = c.in_ok-growth.growth.ranks.items in
     let ranks : List ℕ = c.unwrap.result.items in
     let all : (length ranks ≡ length found)
     × ((s : ℕ) → s < length found → slice_index_or found s None ≡ Some (slice_index ranks s)) =
     rw c.deref.ensures.value at (rw c.unwrap.ensures at c.in_ok-ranks.ensures) in
-    given-Ranked c.args.question.now c.args.values.now c.args.choices.now some.0 c.known.ensures some.1 found _
-    c.in_ok-growth.ensures ranks all.0 all.1
-
-pub returns-clause-layered : goal.returns-clause-layered
-returns-clause-layered c =
-    let some = c.requires.rankable in
-    let found : List (Option ℕ) = c.in_ok-growth.growth.ranks.items in
-    let ranks : List ℕ = c.unwrap.result.items in
-    let all : (length ranks ≡ length found)
-    × ((s : ℕ) → s < length found → slice_index_or found s None ≡ Some (slice_index ranks s)) =
-    rw c.deref.ensures.value at (rw c.unwrap.ensures at c.in_ok-ranks.ensures) in
-    given-layered c.args.question.now c.args.values.now c.args.choices.now some.0 c.known.ensures some.1 found _
-    c.in_ok-growth.ensures ranks all.0 all.1
+    record {
+      ranked = given-Ranked q values choices some.0 c.known.ensures some.1 found _ c.in_ok-growth.ensures ranks
+          all.0 all.1;
+      layered = given-layered q values choices some.0 c.known.ensures some.1 found _ c.in_ok-growth.ensures ranks
+          all.0 all.1;
+    }

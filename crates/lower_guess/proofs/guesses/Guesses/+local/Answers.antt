@@ -1,8 +1,9 @@
 use Rattle.std.proofs.Common.{◌≡◌, ℕ, ◌+◌, ◌-◌, ◌*◌, ◌^◌, ◌<◌, arith, ap, min, sym, subst, ◌∙◌}
 use Rattle.std.specs.Prelude.{IfSome}
+use Rattle.fixed_bellman.proofs.GameSums.{one-more, one-more-fits}
 use Rattle.lower_guess.specs.inside.OfGuesses.{entry_of}
 use Rattle.lower_guess.proofs.Entries.{entry-first, entry-later, entry-zero, step-goal, step-dead, step-free}
-use Rattle.lower_guess.proofs.Entries.{sum-more, sum-more-fits}
+use Rattle.lower_guess.proofs.Entries.{entry-units}
 use Rattle.lower_guess.proofs.guesses.Guesses.+local.Goals as goal
 
 pub entry-returns-then-steps-eq0 : goal.entry-returns-then-steps-eq0
@@ -38,24 +39,24 @@ step-returns t c =
 pub sum-overflow_mul-sum : goal.sum-overflow_mul-sum
 sum-overflow_mul-sum t c =
     let fits : c.loop-place.sum + c.edge-edge.result.weight * c.in_ok-entry.entry < 2 ^ 128 =
-    sum-more-fits c.args.self.now c.args.steps c.args.state c.args.choice c.loop-place.place
-    c.edge_count-place-end.result c.loop-place.sum c.in_ok-entry.entry c.edge-edge.result c.game-game.result.now
-    c.game-game.ensures c.edge_count-place-end.ensures c.loop-place-test.true c.edge-edge.ensures c.loop-place.invariant
-    c.in_ok-entry.ensures c.requires.state c.requires.choice in
+    one-more-fits c.args.self.now.question.now (entry_of c.args.self.now c.args.steps) c.args.state c.args.choice
+    c.loop-place.place c.loop-place.sum (entry-units c.args.self.now c.args.steps) c.game-game.ensures
+    c.edge_count-place-end.ensures c.loop-place-test.true c.edge-edge.ensures c.loop-place.invariant
+    c.in_ok-entry.ensures c.args.self.now.posed c.requires.state c.requires.choice in
     rw c.from.ensures (omega (arith, fits))
 
 pub sum-overflow_add-sum : goal.sum-overflow_add-sum
 sum-overflow_add-sum t c =
     let fits : c.loop-place.sum + c.edge-edge.result.weight * c.in_ok-entry.entry < 2 ^ 128 =
-    sum-more-fits c.args.self.now c.args.steps c.args.state c.args.choice c.loop-place.place
-    c.edge_count-place-end.result c.loop-place.sum c.in_ok-entry.entry c.edge-edge.result c.game-game.result.now
-    c.game-game.ensures c.edge_count-place-end.ensures c.loop-place-test.true c.edge-edge.ensures c.loop-place.invariant
-    c.in_ok-entry.ensures c.requires.state c.requires.choice in
+    one-more-fits c.args.self.now.question.now (entry_of c.args.self.now c.args.steps) c.args.state c.args.choice
+    c.loop-place.place c.loop-place.sum (entry-units c.args.self.now c.args.steps) c.game-game.ensures
+    c.edge_count-place-end.ensures c.loop-place-test.true c.edge-edge.ensures c.loop-place.invariant
+    c.in_ok-entry.ensures c.args.self.now.posed c.requires.state c.requires.choice in
     rw c.from.ensures (omega (arith, fits))
 
 pub sum-loop-place-preserved : goal.sum-loop-place-preserved
 sum-loop-place-preserved t c =
-    rw c.from.ensures (sum-more c.args.self.now c.args.steps c.args.state c.args.choice c.loop-place.place
-    c.edge_count-place-end.result c.loop-place.sum c.in_ok-entry.entry c.edge-edge.result c.game-game.result.now
-    c.game-game.ensures c.edge_count-place-end.ensures c.loop-place-test.true c.edge-edge.ensures c.loop-place.invariant
+    rw c.from.ensures (one-more c.args.self.now.question.now (entry_of c.args.self.now c.args.steps) c.args.state
+    c.args.choice c.loop-place.place c.loop-place.sum (entry-units c.args.self.now c.args.steps) c.game-game.ensures
+    c.edge_count-place-end.ensures c.loop-place-test.true c.edge-edge.ensures c.loop-place.invariant
     c.in_ok-entry.ensures)
