@@ -10,7 +10,6 @@ ghost use Rattle.bracket_engine.specs.Found.{IsFound};
 
 use crate::bounds::Bracket;
 use crate::run::bracket_over;
-use crate::stopping::Ending;
 use formula_reader::Bound;
 use game_model::{Marks, Question};
 use game_outside::{Gate, OutOfMemory};
@@ -29,16 +28,15 @@ pub struct Bracketed {
     pub bracket: Bracket,
 }
 
-/// Returns the zero set of a question, and its [`bracket`](crate::bracket) for a bound, for a caller that has the lists
-/// of predecessors of its game. The run may end when the bound is settled at each initial state. The only error is that
-/// memory ran out.
-pub fn bracket_for<'a, R: Threads + Sync, G: Gate + Sync>(
+/// Returns the zero set of a question, and the bracket of [`bracket_over`](crate::bracket_over) for a bound. The run
+/// may end when the bound is settled at each initial state. The only error is that memory ran out.
+pub fn bracket_for<R: Threads + Sync, G: Gate + Sync>(
     rt: &R,
     alloc: Global,
-    question: &'a Question<'a>,
-    predecessors: &'a Predecessors,
+    question: &Question,
+    predecessors: &Predecessors,
     bound: Bound,
-    initial: &'a [u32],
+    initial: &[u32],
     rounds: u32,
     workers: u32,
     gate: &G,
@@ -52,17 +50,20 @@ pub fn bracket_for<'a, R: Threads + Sync, G: Gate + Sync>(
     ensures found { IfOk result (λ it. IsFound question.now it.zero bound initial.now rounds it.bracket) }
 {
     let zero = zero_set_over(alloc, question, predecessors)?;
-    let stop = StopRule::of_bound(bound, move |lower, upper| {
+    let stop = StopRule::of_bound(bound, |lower, upper| {
         settle(&bound, lower, upper).is_settling()
     });
-    question.known();
-    let ending = Ending {
+    let bracket = bracket_over(
+        rt,
+        alloc,
         question,
-        zero: &zero,
+        &zero,
         predecessors,
-        rule: &stop,
+        rounds,
+        workers,
+        &stop,
         initial,
-    };
-    let bracket = bracket_over(rt, alloc, &ending, rounds, workers, gate)?;
+        gate,
+    )?;
     Ok(Bracketed { zero, bracket })
 }

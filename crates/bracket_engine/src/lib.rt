@@ -6,8 +6,9 @@
 //! states that may rise (`marked_rounds`). A run ends after the asked rounds, or when its lower bounds and those of the
 //! swapped question are settled, or when a guess settles the rule at the initial states. What the contract ensures
 //! holds for every schedule and number of workers. It does not say how near the two tables are to each other beyond the
-//! values of as many steps, nor that two workers ran at once, nor that a run ends as early as it may. [`bracket_for`]
-//! gives the same for a bound, with the zero set, over lists of predecessors that the caller has.
+//! values of as many steps, nor that two workers ran at once, nor that a run ends as early as it may. [`bracket_over`]
+//! gives the same over lists of predecessors that the caller has. [`bracket_for`] gives it for a bound, with the zero
+//! set.
 //!
 //! The workers of a [`Team`] fill the tables of a guess: the table is the same for every number of them and every
 //! schedule. One worker needs no thread.
@@ -30,5 +31,5 @@ mod upper;
 
 pub use bounds::Bracket;
 pub use bracketed::{Bracketed, bracket_for};
-pub use run::{MOST_ROUNDS, bracket};
+pub use run::{MOST_ROUNDS, bracket, bracket_over};
 pub use team::Team;

@@ -3,6 +3,7 @@
 ghost use Rattle.std.specs.Prelude.{◌≡◌, ◌≤◌, ◌<◌, All, IfOk};
 ghost use Rattle.game_model.specs.Query.{states};
 ghost use Rattle.game_model.specs.Dual.{IsZeroSet};
+ghost use Rattle.predecessors.specs.Lists.{ArePredecessors};
 ghost use Rattle.round_workers.specs.Share.{most_workers};
 ghost use Rattle.verdicts.specs.Stop.{bound_of, IsStopRule};
 ghost use Rattle.bracket_engine.specs.Limits.{most_rounds};
@@ -38,15 +39,15 @@ pub const MOST_ROUNDS: u32 = 1_000_000;
 /// The base is the last lower table. The lower table is the lower guess of the base, which can find a value that only
 /// the limit reaches, and no number of rounds. The upper table is the least of the unit less the swapped values, of the
 /// guess over the base, and of the guess that ended the run, if any.
-pub fn bracket<'a, R: Threads + Sync, F: Fn(u64, u64) -> bool, G: Gate + Sync>(
+pub fn bracket<R: Threads + Sync, F: Fn(u64, u64) -> bool, G: Gate + Sync>(
     rt: &R,
     alloc: Global,
-    question: &'a Question<'a>,
-    zero: &'a Marks,
+    question: &Question,
+    zero: &Marks,
     rounds: u32,
     workers: u32,
-    stop: &'a StopRule<F>,
-    initial: &'a [u32],
+    stop: &StopRule<F>,
+    initial: &[u32],
     gate: &G,
 ) -> Result<Bracket, OutOfMemory>
     requires zero { IsZeroSet question.now zero.now }
@@ -57,44 +58,60 @@ pub fn bracket<'a, R: Threads + Sync, F: Fn(u64, u64) -> bool, G: Gate + Sync>(
     requires initial { All (λ s. s < states question.now) initial.now }
     ensures { IfOk result (IsFound question.now zero.now (bound_of stop.now) initial.now rounds) }
 {
-    question.known();
     let predecessors = Predecessors::of_game(alloc, question.game())?;
-    let ending = Ending {
+    bracket_over(
+        rt,
+        alloc,
         question,
         zero,
-        predecessors: &predecessors,
-        rule: stop,
+        &predecessors,
+        rounds,
+        workers,
+        stop,
         initial,
-    };
-    bracket_over(rt, alloc, &ending, rounds, workers, gate)
+        gate,
+    )
 }
 
-/// Returns the bracket of [`bracket`] for a question with what may end its run. The only error is that memory ran out.
+/// Returns the bracket of [`bracket`] for a caller that has the lists of predecessors of the question's game. The only
+/// error is that memory ran out.
 pub fn bracket_over<R: Threads + Sync, F: Fn(u64, u64) -> bool, G: Gate + Sync>(
     rt: &R,
     alloc: Global,
-    ending: &Ending<'_, F>,
+    question: &Question,
+    zero: &Marks,
+    predecessors: &Predecessors,
     rounds: u32,
     workers: u32,
+    stop: &StopRule<F>,
+    initial: &[u32],
     gate: &G,
 ) -> Result<Bracket, OutOfMemory>
-    requires zero { IsZeroSet ending.now.question.now ending.now.zero.now }
+    requires zero { IsZeroSet question.now zero.now }
+    requires lists { ArePredecessors question.now.game predecessors.now }
+    requires rounds { rounds ≤ most_rounds }
     requires some { 1 ≤ workers }
     requires few { workers ≤ most_workers }
-    requires stop { IsStopRule F.Fn ending.now.rule.now }
-    ensures { IfOk result (IsFound ending.now.question.now ending.now.zero.now (bound_of ending.now.rule.now)
-        ending.now.initial.now rounds) }
+    requires stop { IsStopRule F.Fn stop.now }
+    requires initial { All (λ s. s < states question.now) initial.now }
+    ensures { IfOk result (IsFound question.now zero.now (bound_of stop.now) initial.now rounds) }
 {
-    let question = ending.question;
     question.known();
-    let swapped_question = swap(alloc, question, ending.zero)?;
+    let swapped_question = swap(alloc, question, zero)?;
+    let ending = Ending {
+        question,
+        zero,
+        predecessors,
+        rule: stop,
+        initial,
+    };
     let team = Team {
         rt,
         workers: busy_workers(question, workers, question.game().states()),
     };
     let made = Rounds {
         team: &team,
-        ending,
+        ending: &ending,
         most: rounds,
         workers,
         gate,
