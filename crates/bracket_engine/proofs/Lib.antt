@@ -5,3 +5,4 @@ pub mod Guessed
 pub mod Rests
 pub mod Uppers
 pub mod Ending
+pub mod Opening

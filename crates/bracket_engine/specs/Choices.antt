@@ -1,10 +1,8 @@
--- These definitions are about the choices and the ranks of a bracket.
+-- These definitions are about the choices of a bracket.
 use Rattle.std.specs.Prelude.{◌≡◌, ℕ, ◌<◌, ◌==◌, ◌||◌, true, List, length, slice_index, slice_index_or, Option, Some}
 use Rattle.std.specs.Prelude.{None, if◌then◌else◌}
 use Rattle.game_model.specs.declared.game.Side.TheVariants.{Min}
 use Rattle.game_model.specs.Query.{Query, states, is_goal, is_dead, side_at}
-use Rattle.game_model.specs.Ranks.{Ranked, ReachesUnder}
-use Rattle.rank_certificate.specs.Layers.{AreLayered}
 use Rattle.step_core.specs.Word.{value_in, choice_in}
 use Rattle.step_core.specs.Events.{on_side}
 
@@ -23,10 +21,3 @@ pub record AreChoices (q : Query) (lower : List ℕ) (choices : List (Option ℕ
   pub none_at_deads : (s : ℕ) → s < states q → is_dead q s ≡ true → slice_index_or choices s None ≡ None
   pub none_at_least : (s : ℕ) → s < states q → side_at q s ≡ Min → slice_index_or choices s None ≡ None
   pub none_at_zero : (s : ℕ) → s < states q → slice_index lower s ≡ 0 → slice_index_or choices s None ≡ None
-
--- The ranks are the layered ranks of a lower table and choices. The maximiser who plays these choices reaches the
--- table, less any 1/m of the unit, within some horizon.
-pub record AreRanks (q : Query) (lower : List ℕ) (choices : List (Option ℕ)) (ranks : List ℕ) : Type 0 where
-  pub ranked : Ranked q lower choices ranks
-  pub layered : AreLayered q lower choices ranks
-  pub reached : ReachesUnder q choices (slice_index lower)

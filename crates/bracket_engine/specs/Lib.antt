@@ -3,6 +3,5 @@ pub mod Lower
 pub mod Bracket
 pub mod Found
 pub mod Choices
-pub mod Replies
 pub mod Stop
 pub mod inside

@@ -19,6 +19,7 @@ use crate::team::Team;
 use fixed_bellman::settled;
 use game_model::Question;
 use game_outside::{Gate, OutOfMemory};
+use plan_text::Plan;
 use std::alloc::Global;
 use std::thread::Threads;
 
@@ -65,13 +66,16 @@ pub fn bracket_of<R: Threads + Sync, F: Fn(u64, u64) -> bool, G: Gate + Sync>(
         values: &base,
     };
     let (lower, upper) = both_sides(made.team, alloc, &over, words, swapped_values, kept)?;
-    Ok(Bracket {
-        base,
+    let plan = Plan {
         lower: lower.values,
-        upper: upper.table,
         choices: lower.plan.choices,
         ranks: lower.plan.ranks,
+        upper: upper.table,
         replies: upper.replies,
+    };
+    Ok(Bracket {
+        plan,
+        base,
         rounds,
         stable,
     })

@@ -133,9 +133,9 @@ module _ (m : Model) (game : IsGame m.game) (f : Tree) (kl kr cl cr : Known) (lc
       let rest : ℕ = unit - down_steps (swapped high high_run.zero) asked s in
       let under = coarse-lower asked coarse c s inside in
       let over = coarse-upper asked coarse high_run.zero high_run.is_zero c s inside in
-      let lower_is : slice_index band.lower s ≡ slice_index low_run.found.lower.items s =
+      let lower_is : slice_index band.lower s ≡ slice_index low_run.found.plan.lower.items s =
       ap (λ (t : List ℕ). slice_index t s) low_run.lower_is in
-      let upper_is : slice_index band.upper s ≡ slice_index high_run.found.upper.items s =
+      let upper_is : slice_index band.upper s ≡ slice_index high_run.found.plan.upper.items s =
       ap (λ (t : List ℕ). slice_index t s) high_run.upper_is in
       record {
         sharper = sharper bound (slice_index coarse.lower s) (slice_index coarse.upper s) (slice_index band.lower s)

@@ -82,9 +82,9 @@ module _ (q : Query) (zero : List Bool) (bound : Bound) (starts : List ℕ) (ask
   chosen = AreChoicesOf-choices_of q.game posed.game
 
   -- no lower bound is above down steps, and no upper bound below them
-  down-upper : down_steps q asked s ≤ slice_index found.upper.items s
+  down-upper : down_steps q asked s ≤ slice_index found.plan.upper.items s
   down-upper =
-      below-above (down_steps q asked s) (slice_index found.upper.items s) unit (numerator q asked s)
+      below-above (down_steps q asked s) (slice_index found.plan.upper.items s) unit (numerator q asked s)
       (denominator q.game ^ asked) (some-parts asked)
       (down_steps-below q chosen asked s) (run.bounds.sound.high asked s inside)
 
@@ -104,49 +104,51 @@ module _ (q : Query) (zero : List Bool) (bound : Bound) (starts : List ℕ) (ask
     -- 3. What the down steps pass the lower bounds pass, and what the upper bounds pass the rest of the others does.
 
     pub lower-valuation : test_of bound (down_steps q asked s) ≡ true
-        → test_of bound (slice_index found.lower.items s) ≡ true
+        → test_of bound (slice_index found.plan.lower.items s) ≡ true
     lower-valuation passes = elim run.bounds.near.narrow_asked [
       | inl settled ↦ elim (settled-test bound _ _
-          (looked (slice_index found.base.items) (slice_index found.upper.items) settled)) [
-            | inl valuation ↦ test-more bound (slice_index found.base.items s) (slice_index found.lower.items s)
+          (looked (slice_index found.base.items) (slice_index found.plan.upper.items) settled)) [
+            | inl valuation ↦ test-more bound (slice_index found.base.items s) (slice_index found.plan.lower.items s)
                 (run.lower.above s inside) valuation
             | inr fails ↦
                 let no : false ≡ true =
                 sym fails
-                ∙ test-more bound (down_steps q asked s) (slice_index found.upper.items s) down-upper passes in
+                ∙ test-more bound (down_steps q asked s) (slice_index found.plan.upper.items s) down-upper passes in
                 absurd (cc)
           ]
-      | inr narrow ↦ test-more bound (down_steps q asked s) (slice_index found.lower.items s)
+      | inr narrow ↦ test-more bound (down_steps q asked s) (slice_index found.plan.lower.items s)
           (le_trans (narrow.swept s inside) (run.lower.above s inside)) passes
     ]
 
-    pub upper-valuation : test_of bound (slice_index found.upper.items s) ≡ true
+    pub upper-valuation : test_of bound (slice_index found.plan.upper.items s) ≡ true
         → test_of bound (unit - down_steps (swapped q zero) asked s) ≡ true
     upper-valuation passes = elim run.bounds.near.narrow_asked [
       | inl settled ↦ elim (settled-test bound _ _
-          (looked (slice_index found.base.items) (slice_index found.upper.items) settled)) [
+          (looked (slice_index found.base.items) (slice_index found.plan.upper.items) settled)) [
             | inl valuation ↦ test-more bound (slice_index found.base.items s)
                 (unit - down_steps (swapped q zero) asked s)
                 (omega (arith, base-rest)) valuation
             | inr fails ↦ let no : false ≡ true = sym fails ∙ passes in absurd (cc)
           ]
-      | inr narrow ↦ test-more bound (slice_index found.upper.items s) (unit - down_steps (swapped q zero) asked s)
+      | inr narrow ↦ test-more bound (slice_index found.plan.upper.items s) (unit - down_steps (swapped q zero) asked s)
           (omega (arith, narrow.swept_above s inside)) passes
     ]
 
     -- 4. The bounds of a run for a value are no wider than the down steps.
 
-    pub asked-lower : is_asking bound ≡ true → down_steps q asked s ≤ slice_index found.lower.items s
+    pub asked-lower : is_asking bound ≡ true → down_steps q asked s ≤ slice_index found.plan.lower.items s
     asked-lower asking = elim run.bounds.near.narrow_asked [
       | inl settled ↦ absurd
-          (asking-open bound _ _ asking (looked (slice_index found.base.items) (slice_index found.upper.items) settled))
+          (asking-open bound _ _ asking
+          (looked (slice_index found.base.items) (slice_index found.plan.upper.items) settled))
       | inr narrow ↦ le_trans (narrow.swept s inside) (run.lower.above s inside)
     ]
 
     pub asked-upper : is_asking bound ≡ true
-        → slice_index found.upper.items s ≤ unit - down_steps (swapped q zero) asked s
+        → slice_index found.plan.upper.items s ≤ unit - down_steps (swapped q zero) asked s
     asked-upper asking = elim run.bounds.near.narrow_asked [
       | inl settled ↦ absurd
-          (asking-open bound _ _ asking (looked (slice_index found.base.items) (slice_index found.upper.items) settled))
+          (asking-open bound _ _ asking
+          (looked (slice_index found.base.items) (slice_index found.plan.upper.items) settled))
       | inr narrow ↦ omega (arith, narrow.swept_above s inside)
     ]

@@ -67,7 +67,7 @@ sound-answer (ByRounds asked) q bound starts lower upper how posed h =
     let found = h.is_found in
     let least = found.bounds.made.least_upper.table in
     subst (λ (t : List ℕ). IsSoundAnswer q t upper) (sym h.lower_is)
-    (subst (λ (t : List ℕ). IsSoundAnswer q h.found.lower.items t) (sym h.upper_is) (record {
+    (subst (λ (t : List ℕ). IsSoundAnswer q h.found.plan.lower.items t) (sym h.upper_is) (record {
       near = found.lower.near;
       high = found.bounds.sound.high;
       lowers = found.lower.as_many;
@@ -77,16 +77,16 @@ sound-answer (ByRounds asked) q bound starts lower upper how posed h =
     }))
 sound-answer BySolver q bound starts lower upper how posed h =
     let table : List ℕ = h.plan.lower.items in
-    let ranked = h.passes.ranked in
+    let ranked = h.is_plan.passes.ranked in
     subst (λ (t : List ℕ). IsSoundAnswer q t upper) (sym h.lower_is)
     (subst (λ (t : List ℕ). IsSoundAnswer q table t) (sym h.upper_is) (record {
       near = Ranked-near q table h.plan.choices.items h.plan.ranks.items posed ranked;
-      high = h.sound.high;
-      lowers = h.lists.lower;
-      uppers = h.lists.upper;
+      high = h.is_plan.sound.high;
+      lowers = h.is_plan.lists.lower;
+      uppers = h.is_plan.lists.upper;
       lower_units = All-from_get_or (λ v. v ≤ unit) table 0
-          (λ s within. ranked.units s (omega (arith, within, h.lists.lower)));
-      upper_units = h.passes.units;
+          (λ s within. ranked.units s (omega (arith, within, h.is_plan.lists.lower)));
+      upper_units = h.is_plan.passes.units;
     }))
 
 pub record IsBounded (m : Model) (f : Tree) (left right : ℕ → Bool) (band : Band) : Type 0 where

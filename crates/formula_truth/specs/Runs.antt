@@ -3,7 +3,7 @@
 use Rattle.std.specs.Prelude.{◌≡◌, ℕ, Bool, List, if◌then◌else◌}
 use Rattle.std.specs.List.{range_with_len}
 use Rattle.game_model.specs.Limits.{unit}
-use Rattle.game_model.specs.Query.{Query, states as states_in}
+use Rattle.game_model.specs.Query.{Query}
 use Rattle.game_model.specs.Rounded.{opening}
 use Rattle.game_model.specs.Dual.{IsZeroSet}
 use Rattle.formula_reader.specs.declared.formula.Bound.{Bound}
@@ -19,9 +19,7 @@ use Rattle.bracket_engine.specs.Found.{IsFound}
 use Rattle.verdicts.specs.declared.report.How.{How}
 use Rattle.verdicts.specs.declared.report.How.TheVariants.{Rounds, Steps, Solved}
 use Rattle.plan_text.specs.declared.plan.Plan.{Plan}
-use Rattle.plan_text.specs.Entries.{HasStates}
-use Rattle.certificate_audit.specs.Accepted.{Passes, IsSoundPlan}
-use Rattle.solved_plans.specs.Plans.{IsSureExactly, IsZeroExactly}
+use Rattle.solved_plans.specs.Plans.{IsSolvedPlan}
 use Rattle.formula_truth.specs.declared.way.Way.{Way}
 use Rattle.formula_truth.specs.declared.way.Way.TheVariants.{ByRounds, BySolver}
 use Rattle.formula_truth.specs.Truth.{states, question_by, everywhere}
@@ -39,19 +37,15 @@ pub record IsRun (q : Query) (bound : Bound) (starts : List ℕ) (asked : ℕ) (
   pub is_zero : IsZeroSet q zero
   pub found : Bracket
   pub is_found : IsFound q zero bound starts asked found
-  pub lower_is : lower ≡ found.lower.items
-  pub upper_is : upper ≡ found.upper.items
+  pub lower_is : lower ≡ found.plan.lower.items
+  pub upper_is : upper ≡ found.plan.upper.items
   pub rounds : how ≡ Rounds found.rounds
 
 -- The bounds are those of a plan of a question that passes the checks of an audit and is sound. The lower bound is 1
 -- exactly at the almost-sure states, and the upper bound is 0 exactly at the states of value 0.
 pub record IsPlanned (q : Query) (lower upper : List ℕ) (how : How) : Type 0 where
   pub plan : Plan
-  pub lists : HasStates plan (states_in q)
-  pub passes : Passes q plan
-  pub sound : IsSoundPlan q plan
-  pub sure : IsSureExactly q plan
-  pub zero : IsZeroExactly q plan
+  pub is_plan : IsSolvedPlan q plan
   pub lower_is : lower ≡ plan.lower.items
   pub upper_is : upper ≡ plan.upper.items
   pub solved : how ≡ Solved

@@ -1,15 +1,14 @@
 -- Where nothing inside is undecided, what is undecided is left open.
-use Rattle.std.proofs.Common.{◌≡◌, ◌∙◌, ◌<◌, ◌≤◌, ◌+◌, ◌-◌, ◌*◌, ◌^◌, inl, inr, ℕ, Bool, true, false, not, List, length}
+use Rattle.std.proofs.Common.{◌≡◌, ◌∙◌, ◌<◌, ◌≤◌, ◌-◌, ◌*◌, ◌^◌, inl, inr, ℕ, Bool, not, List, length}
 use Rattle.std.proofs.Common.{get_or, arith, sym, ap, subst, refl, le_refl}
 use Rattle.std.specs.Prelude.{slice_index, All}
-use Rattle.std.proofs.Math.Nat.{mul-le-mul_right, one-le-pow}
+use Rattle.std.proofs.Math.Nat.{one-le-pow}
 use Rattle.std.proofs.lemmas.List.{length-map}
 use Rattle.game_model.specs.Game.{IsGame}
 use Rattle.game_model.specs.Limits.{unit}
 use Rattle.game_model.specs.Query.{Query, IsQuery}
 use Rattle.game_model.specs.Values.{denominator, numerator}
-use Rattle.game_model.specs.Rounded.{down_steps, opening}
-use Rattle.game_model.specs.Dual.{open_numerator, swapped}
+use Rattle.game_model.specs.Rounded.{opening}
 use Rattle.game_model.proofs.Choices.{denominator-pos}
 use Rattle.formula_reader.specs.declared.formula.Bound.{Bound}
 use Rattle.formula_reader.specs.declared.formula.PathKind.{PathKind}
@@ -20,15 +19,16 @@ use Rattle.formula_sets.specs.Posing.{Model, next_question_of}
 use Rattle.bounded_rounds.specs.Exact.{IsBracketed, next_numerator}
 use Rattle.bounded_rounds.specs.Steps.{IsSweep}
 use Rattle.bounded_rounds.proofs.Bracketed.{IsBracketed-opening, IsBracketed-next}
+use Rattle.plan_text.specs.declared.plan.Plan.{Plan}
 use Rattle.bracket_engine.specs.declared.bounds.Bracket.{Bracket}
-use Rattle.bracket_engine.specs.Bracket.{IsNarrow, complements_of}
+use Rattle.bracket_engine.specs.Bracket.{complements_of}
 use Rattle.bracket_engine.specs.Found.{IsFound}
+use Rattle.bracket_engine.proofs.Opening.{left-open}
 use Rattle.verdicts.specs.declared.report.How.{How}
 use Rattle.verdicts.specs.declared.verdict.Verdict.TheVariants.{Undecided}
 use Rattle.verdicts.specs.Open.{LeavesOpen, IsLeftOpen, IsLeftOpenBy}
-use Rattle.verdicts.specs.Verdict.{verdict_of, is_settling}
+use Rattle.verdicts.specs.Verdict.{verdict_of}
 use Rattle.verdicts.proofs.Opening.{open-here, open-wider}
-use Rattle.verdicts.proofs.Staying.{settled-on}
 use Rattle.formula_truth.specs.Truth.{states, everywhere, question_by}
 use Rattle.formula_truth.specs.Bands.{Band, exactly, negated, verdict_at}
 use Rattle.formula_truth.specs.declared.way.Way.TheVariants.{ByRounds}
@@ -41,49 +41,16 @@ use Rattle.formula_truth.proofs.Coarsely.{HasUnits, bounded-units, verdict-mirro
 
 -- 1. A run on one question, at a state where it looks.
 
-near-over : (v w r p x : ℕ) → x ≤ (v + r) * p → v ≤ w → x ≤ (w + r) * p
-near-over v w r p x near above = omega (arith, near, mul-le-mul_right p above)
-
-module _ (q : Query) (zero : List Bool) (bound : Bound) (starts : List ℕ) (asked : ℕ) (found : Bracket)
-    (posed : IsQuery q) (run : IsFound q zero bound starts asked found) (s : ℕ) (inside : s < length q.game) where
-  abbrev base : ℕ
-  base = slice_index found.base.items s
-
-  abbrev lower : ℕ
-  lower = slice_index found.lower.items s
-
-  abbrev upper : ℕ
-  upper = slice_index found.upper.items s
-
-  narrow-open : IsNarrow q zero asked (slice_index found.base.items) (slice_index found.upper.items)
-      → verdict_of bound lower upper ≡ Undecided
-      → IsLeftOpen q zero bound asked (slice_index found.lower.items) (slice_index found.upper.items) s
-  narrow-open narrow undecided =
-      let above : base ≤ lower = run.lower.above s inside in
-      let power : ℕ = denominator q.game ^ asked in
-      let printed = open-here bound lower upper undecided in
-      record {
-        printed = printed;
-        swept = open-wider bound lower upper (down_steps q asked s) (unit - down_steps (swapped q zero) asked s) 1 0
-            (omega arith) (omega (arith, narrow.swept s inside, above))
-            (omega (arith, narrow.swept_above s inside)) printed;
-        near = open-wider bound lower upper (unit * numerator q asked s) (unit * open_numerator q zero asked s) power
-            asked (one-le-pow asked (denominator q.game) (denominator-pos q.game posed.game))
-            (near-over base lower asked power (unit * numerator q asked s) (narrow.near s inside) above)
-            (narrow.near_above s inside) printed;
-      }
-
-  found-open : IsLookedAt bound starts s → verdict_of bound lower upper ≡ Undecided
-      → IsLeftOpen q zero bound asked (slice_index found.lower.items) (slice_index found.upper.items) s
-  found-open looked undecided = elim run.bounds.near.narrow_asked [
-    | inl settled ↦
-        let yes : is_settling (verdict_of bound lower upper) ≡ true =
-        settled-on bound base lower upper upper (run.lower.above s inside) (le_refl upper)
-        (looked (slice_index found.base.items) (slice_index found.upper.items) settled) in
-        let no : is_settling (verdict_of bound lower upper) ≡ false = ap is_settling undecided in
-        absurd (cc (yes, no))
-    | inr narrow ↦ narrow-open narrow undecided
-  ]
+found-open : (q : Query) (zero : List Bool) (bound : Bound) (starts : List ℕ) (asked : ℕ) (found : Bracket)
+    → IsQuery q → IsFound q zero bound starts asked found → (s : ℕ) → s < length q.game → IsLookedAt bound starts s
+    → verdict_of bound (slice_index found.plan.lower.items s) (slice_index found.plan.upper.items s) ≡ Undecided
+    → IsLeftOpen q zero bound asked (slice_index found.plan.lower.items) (slice_index found.plan.upper.items) s
+found-open q zero bound starts asked found posed run s inside looked undecided =
+    let base : ℕ → ℕ = slice_index found.base.items in
+    let upper : ℕ → ℕ = slice_index found.plan.upper.items in
+    left-open q posed zero bound asked base upper (slice_index found.plan.lower.items) upper s inside
+    (run.lower.above s inside) (le_refl (upper s)) undecided
+    (elim run.bounds.near.narrow_asked [ inl settled ↦ inl (looked base upper settled) | inr narrow ↦ inr narrow ])
 
 raced-open : (q : Query) (bound : Bound) (starts : List ℕ) (asked : ℕ) (band : Band) (how : How) (s : ℕ)
     → IsQuery q → s < length q.game → IsLookedAt bound starts s → AreAnswered q q bound starts (ByRounds asked) band how
@@ -92,13 +59,14 @@ raced-open q bound starts asked band how s posed inside looked h undecided =
     let run : IsRun q bound starts asked band.lower band.upper how =
     subst (λ (u : List ℕ). IsRun q bound starts asked band.lower u how) (h.one refl) h.low_answer in
     let found : Bracket = run.found in
-    let lower : band.lower ≡ found.lower.items = run.lower_is in
-    let upper : band.upper ≡ found.upper.items = run.upper_is in
-    let here : verdict_of bound (slice_index found.lower.items s) (slice_index found.upper.items s) ≡ Undecided =
-    subst (λ (l : List ℕ). verdict_of bound (slice_index l s) (slice_index found.upper.items s) ≡ Undecided) lower
+    let plan : Plan = found.plan in
+    let lower : band.lower ≡ plan.lower.items = run.lower_is in
+    let upper : band.upper ≡ plan.upper.items = run.upper_is in
+    let here : verdict_of bound (slice_index plan.lower.items s) (slice_index plan.upper.items s) ≡ Undecided =
+    subst (λ (l : List ℕ). verdict_of bound (slice_index l s) (slice_index plan.upper.items s) ≡ Undecided) lower
     (subst (λ (u : List ℕ). verdict_of bound (slice_index band.lower s) (slice_index u s) ≡ Undecided) upper
     undecided) in
-    let at : IsLeftOpen q run.zero bound asked (slice_index found.lower.items) (slice_index found.upper.items) s =
+    let at : IsLeftOpen q run.zero bound asked (slice_index plan.lower.items) (slice_index plan.upper.items) s =
     found-open q run.zero bound starts asked found posed run.is_found s inside looked here in
     record {
       zero = run.zero;
@@ -106,7 +74,7 @@ raced-open q bound starts asked band how s posed inside looked h undecided =
       is_open = subst (λ (l : List ℕ).
           IsLeftOpen q run.zero bound asked (slice_index l) (slice_index band.upper) s) (sym lower)
           (subst (λ (u : List ℕ).
-          IsLeftOpen q run.zero bound asked (slice_index found.lower.items) (slice_index u) s) (sym upper) at);
+          IsLeftOpen q run.zero bound asked (slice_index plan.lower.items) (slice_index u) s) (sym upper) at);
     }
 
 -- 2. So many steps, and one.

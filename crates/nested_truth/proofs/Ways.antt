@@ -11,9 +11,7 @@ use Rattle.bounded_rounds.specs.Steps.{IsSweep}
 use Rattle.bracket_engine.specs.declared.bounds.Bracket.{Bracket}
 use Rattle.bracket_engine.specs.Found.{IsFound}
 use Rattle.plan_text.specs.declared.plan.Plan.{Plan}
-use Rattle.plan_text.specs.Entries.{HasStates}
-use Rattle.certificate_audit.specs.Accepted.{Passes, IsSoundPlan}
-use Rattle.solved_plans.specs.Plans.{IsSureExactly, IsZeroExactly}
+use Rattle.solved_plans.specs.Plans.{IsSolvedPlan}
 use Rattle.verdicts.specs.declared.report.How.{How}
 use Rattle.verdicts.specs.declared.report.How.TheVariants.{Rounds, Steps, Solved}
 use Rattle.formula_truth.specs.declared.way.Way.{Way}
@@ -25,9 +23,10 @@ use Rattle.nested_truth.specs.Seen.{IsBand, high_or}
 
 pub by-rounds : (way : Way) (asked : ℕ) → way ≡ ByRounds asked → (q : Query) (bound : Bound) (starts : List ℕ)
     (zero : List Bool) (found : Bracket) → IsZeroSet q zero → IsFound q zero bound starts asked found
-    → IsAnsweredBy way q bound starts found.lower.items found.upper.items (Rounds found.rounds)
+    → IsAnsweredBy way q bound starts found.plan.lower.items found.plan.upper.items (Rounds found.rounds)
 by-rounds way asked is q bound starts zero found is_zero is_found =
-    subst (λ (w : Way). IsAnsweredBy w q bound starts found.lower.items found.upper.items (Rounds found.rounds))
+    let plan : Plan = found.plan in
+    subst (λ (w : Way). IsAnsweredBy w q bound starts plan.lower.items plan.upper.items (Rounds found.rounds))
     (sym is) (record {
       zero = zero;
       is_zero = is_zero;
@@ -39,29 +38,24 @@ by-rounds way asked is q bound starts zero found is_zero is_found =
     })
 
 pub by-solver : (way : Way) → way ≡ BySolver → (q : Query) (bound : Bound) (starts : List ℕ) (plan : Plan)
-    → HasStates plan (states q) → Passes q plan → IsSoundPlan q plan → IsSureExactly q plan → IsZeroExactly q plan
-    → IsAnsweredBy way q bound starts plan.lower.items plan.upper.items Solved
-by-solver way is q bound starts plan lists passes sound sure zero =
+    → IsSolvedPlan q plan → IsAnsweredBy way q bound starts plan.lower.items plan.upper.items Solved
+by-solver way is q bound starts plan is_plan =
     subst (λ (w : Way). IsAnsweredBy w q bound starts plan.lower.items plan.upper.items Solved) (sym is) (record {
       plan = plan;
-      lists = lists;
-      passes = passes;
-      sound = sound;
-      sure = sure;
-      zero = zero;
+      is_plan = is_plan;
       lower_is = refl;
       upper_is = refl;
       solved = refl;
     })
 
-pub plan-band : (q : Query) (n : ℕ) (plan : Plan) → states q ≡ n → HasStates plan (states q) → Passes q plan
+pub plan-band : (q : Query) (n : ℕ) (plan : Plan) → states q ≡ n → IsSolvedPlan q plan
     → IsBand n (record { lower = plan.lower.items; upper = plan.upper.items })
-plan-band q n plan same lists passes = record {
-  lowers = lists.lower ∙ same;
-  uppers = lists.upper ∙ same;
+plan-band q n plan same is_plan = record {
+  lowers = is_plan.lists.lower ∙ same;
+  uppers = is_plan.lists.upper ∙ same;
   lower_units = All-from_get_or (λ v. v ≤ unit) plan.lower.items 0
-      (λ s within. passes.ranked.units s (omega (arith, within, lists.lower)));
-  upper_units = passes.units;
+      (λ s within. is_plan.passes.ranked.units s (omega (arith, within, is_plan.lists.lower)));
+  upper_units = is_plan.passes.units;
 }
 
 -- 2. Two.

@@ -8,7 +8,7 @@ ghost use Rattle.nested_truth.specs.Seen.{IsBand, band_in, high_or};
 use crate::bounds::Bounds;
 use crate::questions::Questions;
 use crate::setting::Setting;
-use bracket_engine::{Bracket, bracket_for};
+use bracket_engine::bracket_for;
 use formula_reader::Bound;
 use formula_truth::Way;
 use game_model::Question;
@@ -94,7 +94,7 @@ fn answer_one<R: Threads + Sync, G: Gate + Sync>(
             )?;
             let bracket = found.bracket;
             let how = How::Rounds(bracket.rounds);
-            let Bracket { lower, upper, .. } = bracket;
+            let Plan { lower, upper, .. } = bracket.plan;
             Ok(Bounds { lower, upper, how })
         }
         Way::BySolver => {

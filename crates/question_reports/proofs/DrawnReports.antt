@@ -14,6 +14,7 @@ use Rattle.formula_reader.specs.declared.formula.Bound.TheVariants.{AskMax}
 use Rattle.verdicts.specs.Verdict.{is_asking}
 use Rattle.bracket_engine.specs.declared.bounds.Bracket.{Bracket}
 use Rattle.bracket_engine.specs.Bracket.{IsBracket}
+use Rattle.bracket_engine.specs.Found.{IsFound}
 use Rattle.bracket_engine.specs.Lower.{IsLowerTable}
 use Rattle.bracket_engine.specs.Stop.{AreSettledAt}
 use Rattle.run_answers.specs.declared.status.Status.{Status}
@@ -26,42 +27,37 @@ never_settled : (lower upper : List ℕ) → AreSettledAt AskMax (0 ∷ []) (sli
 never_settled lower upper settled = let first = settled 0 0 (omega arith) in cc (first)
 
 pub all_made : (q : Query) (zero : List Bool) (asked : ℕ) (found : Bracket)
-    → IsBracket q zero AskMax (0 ∷ []) asked found.base.items found.upper.items found.rounds found.stable
-    → found.stable ≡ false → found.rounds ≡ asked
-all_made q zero asked found bounds unstable = elim (cases_lt found.rounds asked) [
+    → IsFound q zero AskMax (0 ∷ []) asked found → found.stable ≡ false → found.rounds ≡ asked
+all_made q zero asked found is_found unstable = elim (cases_lt found.rounds asked) [
   | inl early ↦ absurd (by_end early)
-  | inr late ↦ omega (arith, late, bounds.near.few)
+  | inr late ↦ omega (arith, late, is_found.bounds.near.few)
 ]
   where
     by_end : found.rounds < asked → ⊥
-    by_end early = elim (bounds.ended.early early) [
+    by_end early = elim (is_found.bounds.ended.early early) [
       | inl stable ↦ cc (stable, unstable)
-      | inr settled ↦ never_settled found.base.items found.upper.items settled
+      | inr settled ↦ never_settled found.base.items found.plan.upper.items settled
     ]
 
 -- 2. The answer.
 
 pub made : {X E : Type 0} (text : X → List ℕ) (ends : X → Status) (seed states asked : ℕ) (q : Query)
     (zero : List Bool) (found : Bracket) → q ≡ drawn_question seed states → IsZeroSet q zero
-    → IsBracket q zero AskMax (0 ∷ []) asked found.base.items found.upper.items found.rounds found.stable
-    → IsLowerTable q zero found.base.items found.lower.items found.choices.items found.ranks.items
-    → (result : Result X E) → IfOk result (λ answer. text answer
-    ≡ summary_text seed states (count_by (λ marked. marked) zero) found.stable found.lower.items found.upper.items)
+    → IsFound q zero AskMax (0 ∷ []) asked found → (result : Result X E)
+    → IfOk result (λ answer. text answer ≡ summary_text seed states (count_by (λ marked. marked) zero) found.stable
+    found.plan.lower.items found.plan.upper.items)
     → IfOk result (λ answer. ends answer ≡ status_made found.stable)
     → IfOk result (λ answer. IsMade seed states asked (text answer) (ends answer))
-made text ends seed states asked q zero found same is_zero bounds lower (Ok answer) written ended = record {
+made text ends seed states asked q zero found same is_zero is_found (Ok answer) written ended = record {
   zero = zero;
   is_zero = subst (λ (p : Query). IsZeroSet p zero) same is_zero;
   found = found;
-  bounds = subst (λ (p : Query).
-      IsBracket p zero AskMax (0 ∷ []) asked found.base.items found.upper.items found.rounds found.stable) same bounds;
-  lower = subst (λ (p : Query).
-      IsLowerTable p zero found.base.items found.lower.items found.choices.items found.ranks.items) same lower;
+  is_found = subst (λ (p : Query). IsFound p zero AskMax (0 ∷ []) asked found) same is_found;
   written = written;
   ends = ended;
-  completed = all_made q zero asked found bounds;
+  completed = all_made q zero asked found is_found;
 }
-made text ends seed states asked q zero found same is_zero bounds lower (Err error) written ended = tt
+made text ends seed states asked q zero found same is_zero is_found (Err error) written ended = tt
 
 -- the sum of a table over all states
 pub sum-fits : (table : List ℕ) → length table ≤ most_states → All (λ v. v ≤ unit) table → sum_of table < 2 ^ 128
@@ -116,6 +112,13 @@ UppersAgree = (q : Query) (zero : List Bool) (bound other_bound : Bound) (initia
     → IsBracket q zero bound initial asked base upper rounds true
     → IsBracket q zero other_bound other_initial other_asked other_base other other_rounds true → upper ≡ other
 
+-- the bracket of a run that is settled
+stable-bracket : (q : Query) (zero : List Bool) (asked : ℕ) (found : Bracket) → found.stable ≡ true
+    → IsFound q zero AskMax (0 ∷ []) asked found
+    → IsBracket q zero AskMax (0 ∷ []) asked found.base.items found.plan.upper.items found.rounds true
+stable-bracket q zero asked found stable h = subst (λ (b : Bool).
+    IsBracket q zero AskMax (0 ∷ []) asked found.base.items found.plan.upper.items found.rounds b) stable h.bounds
+
 pub settled-agree : BasesAgree → LowersAgree → UppersAgree → (seed states asked other_asked : ℕ) (text other : List ℕ)
     → IsMade seed states asked text Fine → IsMade seed states other_asked other Fine → text ≡ other
 settled-agree bases lowers uppers seed states asked other_asked text other a b =
@@ -124,31 +127,26 @@ settled-agree bases lowers uppers seed states asked other_asked text other a b =
     let y = b.found in
     let stable_x = settled-stable x.stable a.ends in
     let stable_y = settled-stable y.stable b.ends in
+    let summary = summary_text seed states (count_by (λ marked. marked) b.zero) in
     let zeros = same_zero q a.zero b.zero a.is_zero b.is_zero in
-    let of_x : IsBracket q a.zero AskMax (0 ∷ []) asked x.base.items x.upper.items x.rounds true = subst
-    (λ (s : Bool). IsBracket q a.zero AskMax (0 ∷ []) asked x.base.items x.upper.items x.rounds s) stable_x a.bounds in
-    let of_y : IsBracket q b.zero AskMax (0 ∷ []) other_asked y.base.items y.upper.items y.rounds true =
-    subst (λ (s : Bool). IsBracket q b.zero AskMax (0 ∷ []) other_asked y.base.items y.upper.items y.rounds s)
-    stable_y b.bounds in
-    let alike : IsBracket q a.zero AskMax (0 ∷ []) other_asked y.base.items y.upper.items y.rounds true =
-    subst (λ (z : List Bool). IsBracket q z AskMax (0 ∷ []) other_asked y.base.items y.upper.items y.rounds true)
-    (sym zeros) of_y in
-    let base : x.base.items ≡ y.base.items = bases q a.zero a.zero AskMax AskMax (0 ∷ [])
-    (0 ∷ []) asked other_asked x.base.items x.upper.items y.base.items y.upper.items x.rounds y.rounds of_x alike in
-    let over : IsLowerTable q a.zero y.base.items x.lower.items x.choices.items x.ranks.items =
-    subst (λ (l : List ℕ). IsLowerTable q a.zero l x.lower.items x.choices.items x.ranks.items) base a.lower in
-    let beside : IsLowerTable q a.zero y.base.items y.lower.items y.choices.items y.ranks.items =
-    subst (λ (z : List Bool). IsLowerTable q z y.base.items y.lower.items y.choices.items y.ranks.items)
-    (sym zeros) b.lower in
-    let lower : x.lower.items ≡ y.lower.items = lowers q a.zero y.base.items x.lower.items y.lower.items x.choices.items
-    y.choices.items x.ranks.items y.ranks.items over beside in
-    let upper : x.upper.items ≡ y.upper.items = uppers q a.zero AskMax AskMax (0 ∷ []) (0 ∷ []) asked other_asked
-    x.base.items x.upper.items y.base.items y.upper.items x.rounds y.rounds refl refl of_x alike in
+    let beside : IsFound q a.zero AskMax (0 ∷ []) other_asked y =
+    subst (λ (z : List Bool). IsFound q z AskMax (0 ∷ []) other_asked y) (sym zeros) b.is_found in
+    let of_x = stable-bracket q a.zero asked x stable_x a.is_found in
+    let of_y = stable-bracket q a.zero other_asked y stable_y beside in
+    let base : x.base.items ≡ y.base.items = bases q a.zero a.zero AskMax AskMax (0 ∷ []) (0 ∷ []) asked other_asked
+    x.base.items x.plan.upper.items y.base.items y.plan.upper.items x.rounds y.rounds of_x of_y in
+    let over : IsLowerTable q a.zero y.base.items x.plan.lower.items x.plan.choices.items x.plan.ranks.items =
+    subst (λ (l : List ℕ). IsLowerTable q a.zero l x.plan.lower.items x.plan.choices.items x.plan.ranks.items) base
+    a.is_found.lower in
+    let lower : x.plan.lower.items ≡ y.plan.lower.items = lowers q a.zero y.base.items x.plan.lower.items
+    y.plan.lower.items x.plan.choices.items y.plan.choices.items x.plan.ranks.items y.plan.ranks.items over
+    beside.lower in
+    let upper : x.plan.upper.items ≡ y.plan.upper.items = uppers q a.zero AskMax AskMax (0 ∷ []) (0 ∷ []) asked
+    other_asked x.base.items x.plan.upper.items y.base.items y.plan.upper.items x.rounds y.rounds refl refl of_x of_y in
     a.written
     ∙ ap (λ (z : List Bool).
-    summary_text seed states (count_by (λ marked. marked) z) x.stable x.lower.items x.upper.items) zeros
-    ∙ ap (λ (s : Bool). summary_text seed states (count_by (λ marked. marked) b.zero) s x.lower.items x.upper.items)
-    (stable_x ∙ sym stable_y)
-    ∙ ap (λ (l : List ℕ). summary_text seed states (count_by (λ marked. marked) b.zero) y.stable l x.upper.items) lower
-    ∙ ap (λ (u : List ℕ). summary_text seed states (count_by (λ marked. marked) b.zero) y.stable y.lower.items u) upper
+    summary_text seed states (count_by (λ marked. marked) z) x.stable x.plan.lower.items x.plan.upper.items) zeros
+    ∙ ap (λ (s : Bool). summary s x.plan.lower.items x.plan.upper.items) (stable_x ∙ sym stable_y)
+    ∙ ap (λ (l : List ℕ). summary y.stable l x.plan.upper.items) lower
+    ∙ ap (λ (u : List ℕ). summary y.stable y.plan.lower.items u) upper
     ∙ sym b.written

@@ -6,8 +6,7 @@ use Rattle.drawn_game.specs.Rules.{drawn_game}
 use Rattle.drawn_game.specs.Asked.{question_of}
 use Rattle.formula_reader.specs.declared.formula.Bound.TheVariants.{AskMax}
 use Rattle.bracket_engine.specs.declared.bounds.Bracket.{Bracket}
-use Rattle.bracket_engine.specs.Bracket.{IsBracket}
-use Rattle.bracket_engine.specs.Lower.{IsLowerTable}
+use Rattle.bracket_engine.specs.Found.{IsFound}
 use Rattle.run_answers.specs.declared.status.Status.{Status}
 use Rattle.run_answers.specs.declared.status.Status.TheVariants.{Fine, SomeUndecided}
 use Rattle.run_refusals.specs.Refusals.{numbered}
@@ -43,11 +42,8 @@ pub record IsMade (seed states asked : ℕ) (text : List ℕ) (status : Status) 
   pub zero : List Bool
   pub is_zero : IsZeroSet (drawn_question seed states) zero
   pub found : Bracket
-  pub bounds : IsBracket (drawn_question seed states) zero AskMax
-      (0 ∷ []) asked found.base.items found.upper.items found.rounds found.stable
-  pub lower : IsLowerTable (drawn_question seed states) zero found.base.items found.lower.items found.choices.items
-      found.ranks.items
-  pub written : text ≡ summary_text seed states (count_by (λ marked.
-      marked) zero) found.stable found.lower.items found.upper.items
+  pub is_found : IsFound (drawn_question seed states) zero AskMax (0 ∷ []) asked found
+  pub written : text ≡ summary_text seed states (count_by (λ marked. marked) zero) found.stable
+      found.plan.lower.items found.plan.upper.items
   pub ends : status ≡ status_made found.stable
   pub completed : found.stable ≡ false → found.rounds ≡ asked

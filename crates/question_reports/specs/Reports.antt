@@ -1,13 +1,9 @@
 -- These definitions give the answer to a question: a report of its initial states, and its certificate if that is asked
 -- for.
-use Rattle.std.specs.Prelude.{◌≡◌, ℕ, ◌≤◌, Bool, true, false, List, length, slice_index, Option, All}
-use Rattle.game_model.specs.Limits.{unit}
+use Rattle.std.specs.Prelude.{◌≡◌, ℕ, Bool, true, false, List, slice_index, Option, All}
 use Rattle.game_model.specs.Query.{Query, IsQuery, states}
-use Rattle.game_model.specs.Rounded.{IsBelow, IsInductive}
-use Rattle.game_model.specs.Bounds.{IsHigh}
+use Rattle.game_model.specs.Rounded.{IsBelow}
 use Rattle.game_model.specs.Dual.{IsZeroSet}
-use Rattle.inductive_check.specs.Replies.{AreReplies, HoldsUnder}
-use Rattle.formula_reader.specs.declared.formula.Bound.{Bound}
 use Rattle.formula_reader.specs.Formula.{Tree}
 use Rattle.plan_text.specs.declared.plan.Plan.{Plan}
 use Rattle.plan_text.specs.Entries.{HasStates}
@@ -27,29 +23,20 @@ use Rattle.question_reports.specs.Valued.{IsTold}
 
 -- 1. What is printed of what was found.
 
--- The upper table passes a check and its replies hold it, so no opponent of the minimiser who plays them gets above it.
-pub record IsUpperHeld (q : Query) (upper : List ℕ) (replies : List (Option ℕ)) : Type 0 where
-  pub as_many : length upper ≡ states q
-  pub replied : length replies ≡ states q
-  pub units : All (λ v. v ≤ unit) upper
-  pub inductive : IsInductive q (slice_index upper)
-  pub high : IsHigh q (slice_index upper)
-  -- Each state that needs a reply has one that is held to its entry.
-  pub good : AreReplies q (slice_index upper) replies
-  pub holds : HoldsUnder q replies (slice_index upper)
-
 -- The upper table is shown unchanged, or lowered to the best exits of the traps under the replies.
 abbrev pub IsUpperShown : Query → Bool → List (Option ℕ) → List ℕ → List ℕ → Type 0
 IsUpperShown q true replies upper shown = IsLoweredTable q replies upper shown
 IsUpperShown q false replies upper shown = shown ≡ upper
 
--- The plan shows the lower table with its choices and ranks, and the upper table with its replies. The upper table is
--- lowered if that is asked for.
-pub record IsShown (q : Query) (traps : Bool) (found : Bracket) (plan : Plan) : Type 0 where
-  pub lower : plan.lower.items ≡ found.lower.items
-  pub choices : plan.choices.items ≡ found.choices.items
-  pub ranks : plan.ranks.items ≡ found.ranks.items
-  pub replies : plan.replies.items ≡ found.replies.items
+-- The plan that is shown is the one that was found, but its upper table is lowered if that is asked for.
+pub record IsShown (q : Query) (traps : Bool) (found plan : Plan) : Type 0 where
+  pub others : plan ≡ record {
+    lower = found.lower;
+    choices = found.choices;
+    ranks = found.ranks;
+    upper = plan.upper;
+    replies = found.replies;
+  }
   pub upper : IsUpperShown q traps found.replies.items found.upper.items plan.upper.items
   -- The upper table that is shown is nowhere above the one that was found.
   pub below : IsBelow q (slice_index plan.upper.items) (slice_index found.upper.items)
@@ -67,7 +54,7 @@ pub record IsBracketReport (q : Query) (initial : List ℕ) (f : Tree) (check : 
   pub found : Bracket
   pub is_found : IsFound q zero (answered f).bound initial check.rounds found
   pub plan : Plan
-  pub shown : IsShown q check.traps found plan
+  pub shown : IsShown q check.traps found.plan plan
   pub lists : HasStates plan (states q)
   pub told : IsTold q initial f plan (output_of check.plan f (Rounds found.rounds) initial plan).lines status
   pub passes : Passes q plan

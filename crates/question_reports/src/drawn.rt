@@ -59,9 +59,9 @@ fn write_summary(
     zero: &Marks,
     found: &Bracket,
 ) -> Result<Answer, OutOfMemory>
-    requires fits { (sum_of found.now.lower.items < 2 ^ 128) × (sum_of found.now.upper.items < 2 ^ 128) }
+    requires fits { (sum_of found.now.plan.lower.items < 2 ^ 128) × (sum_of found.now.plan.upper.items < 2 ^ 128) }
     ensures text { IfOk result (λ answer. answer.text.items ≡ summary_text make.now.seed make.now.states
-        (count_by (λ marked. marked) zero.now) found.now.stable found.now.lower.items found.now.upper.items) }
+        (count_by (λ marked. marked) zero.now) found.now.stable found.now.plan.lower.items found.now.plan.upper.items) }
     ensures status { IfOk result (λ answer. answer.status ≡ status_made found.now.stable) }
     ensures answer { IfOk result (λ answer. IsAnswer answer.status) }
 {
@@ -78,13 +78,13 @@ fn write_summary(
 
 // Writes the sums of the lower and the upper table if the run is settled.
 fn ending(alloc: Global, found: &Bracket) -> Result<String, AllocError>
-    requires fits { (sum_of found.now.lower.items < 2 ^ 128) × (sum_of found.now.upper.items < 2 ^ 128) }
-    ensures { IfOk result (λ end. string_bytes end ≡ ending found.now.stable found.now.lower.items
-        found.now.upper.items) }
+    requires fits { (sum_of found.now.plan.lower.items < 2 ^ 128) × (sum_of found.now.plan.upper.items < 2 ^ 128) }
+    ensures { IfOk result (λ end. string_bytes end ≡ ending found.now.stable found.now.plan.lower.items
+        found.now.plan.upper.items) }
 {
     if found.stable {
-        let lower = sum_of(&found.lower);
-        let upper = sum_of(&found.upper);
+        let lower = sum_of(&found.plan.lower);
+        let upper = sum_of(&found.plan.upper);
         format!(in alloc; " lower {lower} upper {upper} settled\n")
     } else {
         String::from_str(alloc, " unsettled\n")

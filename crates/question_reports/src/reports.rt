@@ -1,20 +1,20 @@
 //! This module makes the answer to a question.
 
-ghost use Rattle.std.specs.Prelude.{◌≡◌, ◌≤◌, ◌<◌, ◌++◌, All, IfOk, OnOk, length, map, slice_index};
+ghost use Rattle.std.specs.Prelude.{◌≡◌, ◌≤◌, ◌<◌, ◌++◌, All, IfOk, OnOk, length, map};
 ghost use Rattle.game_model.specs.Query.{states};
 ghost use Rattle.game_model.specs.Limits.{unit};
-ghost use Rattle.game_model.specs.Rounded.{IsBelow};
 ghost use Rattle.predecessors.specs.Lists.{ArePredecessors};
 ghost use Rattle.rpatl_syntax.specs.Dual.{IsAtMostOne, answered as answered_of};
 ghost use Rattle.formula_reader.specs.Formula.{tree_of};
 ghost use Rattle.plan_text.specs.Entries.{HasStates, greatest_rank};
+ghost use Rattle.certificate_audit.specs.Accepted.{Passes};
 ghost use Rattle.command_words.specs.Words.{AreInRange, check_of};
 ghost use Rattle.run_answers.specs.Printed.{certificate_of, output_of, status_of};
-ghost use Rattle.question_reports.specs.Reports.{IsBracketReport, IsShown, IsUpperHeld, IsUpperShown};
+ghost use Rattle.question_reports.specs.Reports.{IsBracketReport, IsShown};
 ghost use Rattle.run_answers.specs.Outputs.{certificate_part, output_text};
 ghost use Rattle.run_answers.specs.Status.{IsAnswer};
 
-use bracket_engine::{Bracket, bracket_for};
+use bracket_engine::bracket_for;
 use command_words::CheckWords;
 use formula_reader::Formula;
 use formula_sets::Posed;
@@ -28,7 +28,7 @@ use std::alloc::Global;
 use std::thread::Threads;
 use trap_sets::lower_traps_over;
 use verdicts::How;
-use verdicts::laws::{mirrored_verdicts_are_those_of_the_dual, undecided_thresholds_are_left_open};
+use verdicts::laws::mirrored_verdicts_are_those_of_the_dual;
 
 /// These are a formula as the words spell it, and the formula whose question is answered: for `G` its dual, else the
 /// same.
@@ -73,68 +73,37 @@ pub fn bracket_report<R: Threads + Sync, G: Gate + Sync>(
         check.workers,
         gate,
     )?;
-    // These calls do nothing: they recall what a question keeps, and two laws.
+    // These calls do nothing: they recall what a question keeps, and a law.
     question.known();
-    undecided_thresholds_are_left_open();
     mirrored_verdicts_are_those_of_the_dual();
     let found = bracketed.bracket;
     let how = How::Rounds(found.rounds);
     let formulas = Formulas { spelled, answered };
-    let plan = shown(alloc, question, &predecessors, check.traps, found)?;
+    let plan = shown(alloc, question, &predecessors, check.traps, found.plan)?;
     make_answer(alloc, &plan, how, formulas, initial, check.plan)
 }
 
-// Makes what is printed of a bracket: its tables with the strategies. The upper table is lowered to the best exits of
-// traps if that is asked for.
+// Makes the plan that is printed of the one that was found. Its upper table is lowered to the best exits of traps if
+// that is asked for.
 fn shown(
     alloc: Global,
     question: &Question,
     predecessors: &Predecessors,
     traps: bool,
-    found: Bracket,
+    found: Plan,
 ) -> Result<Plan, OutOfMemory>
-    requires lists { ArePredecessors question.now.game predecessors.now }
-    requires held { IsUpperHeld question.now found.upper.items found.replies.items }
+    requires predecessors { ArePredecessors question.now.game predecessors.now }
+    requires lists { HasStates found (states question.now) }
+    requires passes { Passes question.now found }
     ensures shown { IfOk result (λ plan. IsShown question.now traps found plan) }
-    ensures held { IfOk result (λ plan. IsUpperHeld question.now plan.upper.items plan.replies.items) }
+    ensures lists { IfOk result (λ plan. HasStates plan (states question.now)) }
+    ensures passes { IfOk result (λ plan. Passes question.now plan) }
 {
-    let upper = shown_upper(
-        alloc,
-        question,
-        predecessors,
-        traps,
-        found.upper,
-        &found.replies,
-    )?;
-    Ok(Plan {
-        lower: found.lower,
-        choices: found.choices,
-        ranks: found.ranks,
-        upper,
-        replies: found.replies,
-    })
-}
-
-// Lowers the upper table if that is asked for.
-fn shown_upper(
-    alloc: Global,
-    question: &Question,
-    predecessors: &Predecessors,
-    traps: bool,
-    upper: Vec<u64>,
-    replies: &[Option<u32>],
-) -> Result<Vec<u64>, OutOfMemory>
-    requires lists { ArePredecessors question.now.game predecessors.now }
-    requires held { IsUpperHeld question.now upper.items replies.now }
-    ensures shown { IfOk result (λ table. IsUpperShown question.now traps replies.now upper.items table.items) }
-    ensures below { IfOk result (λ table. IsBelow question.now (slice_index table.items) (slice_index upper.items)) }
-    ensures held { IfOk result (λ table. IsUpperHeld question.now table.items replies.now) }
-{
-    if traps {
-        lower_traps_over(alloc, question, predecessors, &upper, replies)
-    } else {
-        Ok(upper)
+    if !traps {
+        return Ok(found);
     }
+    let upper = lower_traps_over(alloc, question, predecessors, &found.upper, &found.replies)?;
+    Ok(Plan { upper, ..found })
 }
 
 /// Makes the lines and the status of a plan, and its certificate if that is asked for.

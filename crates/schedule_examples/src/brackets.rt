@@ -95,8 +95,8 @@ fn check_rounds<R: Threads + Sync>(
         asked,
         (
             found.base.as_slice(),
-            found.lower.as_slice(),
-            found.upper.as_slice(),
+            found.plan.lower.as_slice(),
+            found.plan.upper.as_slice(),
             (found.rounds, found.stable),
         ),
         (
@@ -126,10 +126,10 @@ fn check_lotteries<R: Threads + Sync>(rt: &R, alloc: Global, workers: u32) -> Re
     same(
         workers,
         (
-            found.lower.as_slice(),
-            found.upper.as_slice(),
-            found.choices.as_slice(),
-            found.replies.as_slice(),
+            found.plan.lower.as_slice(),
+            found.plan.upper.as_slice(),
+            found.plan.choices.as_slice(),
+            found.plan.replies.as_slice(),
             found.stable,
         ),
         (

@@ -47,7 +47,7 @@ fn closes<R: Threads + Sync>(
 ) -> Result<(), Fail> {
     for rounds in 0..28 {
         let found = value_bracket(rt, alloc, question, rounds, 2, &OpenGate {})?;
-        for (lower, upper) in found.lower.iter().zip(found.upper.iter()) {
+        for (lower, upper) in found.plan.lower.iter().zip(found.plan.upper.iter()) {
             let close = are_close(ending, found.rounds, *lower, *upper);
             same(rounds, close.ok_or("too many rounds")?, true)?;
         }

@@ -1,16 +1,11 @@
 //! This module makes the plan that is handed out.
 
-ghost use Rattle.std.specs.Prelude.{IfOk, slice_index};
-ghost use Rattle.game_model.specs.Query.{states};
+ghost use Rattle.std.specs.Prelude.{IfOk};
 ghost use Rattle.game_model.specs.Dual.{IsZeroSet};
 ghost use Rattle.predecessors.specs.Lists.{ArePredecessors};
 ghost use Rattle.almost_sure.specs.Values.{AreAlmostSure};
-ghost use Rattle.inductive_check.specs.Replies.{AreFirstReplies};
-ghost use Rattle.rank_certificate.specs.Carrying.{IsLayeredPlan};
-ghost use Rattle.plan_text.specs.Entries.{HasStates};
-ghost use Rattle.certificate_audit.specs.Accepted.{Passes, IsSoundPlan};
 ghost use Rattle.solved_plans.specs.Bounds.{AreBoundsOf};
-ghost use Rattle.solved_plans.specs.Plans.{IsSureExactly, IsZeroExactly};
+ghost use Rattle.solved_plans.specs.Plans.{IsSolvedPlan};
 
 use crate::held::held_table;
 use crate::reached::reached_table;
@@ -50,17 +45,9 @@ pub fn hand_out(
     requires lists { ArePredecessors question.now.game predecessors.now }
     requires sure { AreAlmostSure question.now sure.now }
     requires zero { IsZeroSet question.now zero.now }
-    ensures lists { IfOk result (λ plan. HasStates plan (states question.now)) }
-    ensures passes { IfOk result (λ plan. Passes question.now plan) }
-    ensures sound { IfOk result (λ plan. IsSoundPlan question.now plan) }
-    ensures sure { IfOk result (λ plan. IsSureExactly question.now plan) }
-    ensures zero { IfOk result (λ plan. IsZeroExactly question.now plan) }
+    ensures plan { IfOk result (λ plan. IsSolvedPlan question.now plan) }
     ensures bounds { IfOk result (λ plan. AreBoundsOf question.now candidates.now.lower.items candidates.now.upper.items
         plan.lower.items plan.upper.items) }
-    ensures choices { IfOk result (λ plan. IsLayeredPlan question.now plan.lower.items plan.choices.items
-        plan.ranks.items) }
-    ensures replies { IfOk result (λ plan. AreFirstReplies question.now
-        (slice_index plan.upper.items) plan.replies.items) }
 {
     question.known();
     let reached = reached_table(alloc, question, predecessors, sure, zero, &candidates.lower)?;

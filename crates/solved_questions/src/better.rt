@@ -1,10 +1,9 @@
-//! This module chooses the better tables of a plan and of a bracket.
+//! This module chooses the better tables of a plan and of the plan that rounds found.
 
 ghost use Rattle.std.specs.Prelude.{◌≡◌, length};
 ghost use Rattle.game_model.specs.Query.{states};
 
 use crate::wide::{entry_of, is_open};
-use bracket_engine::Bracket;
 use formula_reader::Bound;
 use game_model::{Marks, Question, UNIT};
 use game_outside::OutOfMemory;
@@ -13,8 +12,8 @@ use solved_plans::Candidates;
 use std::alloc::Global;
 
 /// Returns the lesser upper entry of each state, and the lower table with the greater sum over the states of `starts`
-/// that the bounds of the plan leave open. At a tie this is the plan's. The lower table of the bracket has the unit at
-/// the almost-sure states, as that of the plan has.
+/// that the bounds of the plan leave open. At a tie this is the plan's. The lower table that rounds found has the unit
+/// at the almost-sure states, as that of the plan has.
 pub(crate) fn better_of(
     alloc: Global,
     question: &Question,
@@ -22,7 +21,7 @@ pub(crate) fn better_of(
     bound: &Bound,
     starts: &[u32],
     plan: &Plan,
-    found: &Bracket,
+    found: &Plan,
 ) -> Result<Candidates, OutOfMemory>
     requires { length sure.now ≡ states question.now }
 {
@@ -46,11 +45,9 @@ fn lesser(
     one: &[u64],
     other: &[u64],
 ) -> Result<Vec<u64>, OutOfMemory> {
-    let states = question.game().states();
-    let mut table = Vec::with_capacity(alloc, states as usize)?;
-    for state in 0..states {
-        table.push(entry_of(one, state).min(entry_of(other, state)))?;
-    }
+    let table = (0..question.game().states())
+        .map(|state| entry_of(one, state).min(entry_of(other, state)))
+        .collect::<Vec<u64>>(alloc)?;
     Ok(table)
 }
 
@@ -78,11 +75,10 @@ fn raised(
 
 // Returns the sum of a table over the states of `starts` that the bounds of a plan leave open.
 fn sum_of(bound: &Bound, starts: &[u32], plan: &Plan, table: &[u64]) -> u128 {
-    let mut sum: u128 = 0;
-    for state in starts {
-        if is_open(bound, plan, *state) {
-            sum = sum.saturating_add(u128::from(entry_of(table, *state)));
-        }
-    }
-    sum
+    starts
+        .iter()
+        .filter(|state| is_open(bound, plan, **state))
+        .fold(0, |sum: u128, state| {
+            sum.saturating_add(u128::from(entry_of(table, *state)))
+        })
 }

@@ -1,13 +1,9 @@
 //! This module finds the plan of a question.
 
-ghost use Rattle.std.specs.Prelude.{◌<◌, All, IfOk, slice_index};
+ghost use Rattle.std.specs.Prelude.{◌<◌, All, IfOk};
 ghost use Rattle.game_model.specs.Query.{states};
 ghost use Rattle.predecessors.specs.Lists.{ArePredecessors};
-ghost use Rattle.inductive_check.specs.Replies.{AreFirstReplies};
-ghost use Rattle.rank_certificate.specs.Carrying.{IsLayeredPlan};
-ghost use Rattle.plan_text.specs.Entries.{HasStates};
-ghost use Rattle.certificate_audit.specs.Accepted.{IsSoundPlan, Passes};
-ghost use Rattle.solved_plans.specs.Plans.{IsSureExactly, IsZeroExactly};
+ghost use Rattle.solved_plans.specs.Plans.{IsSolvedPlan};
 
 use crate::better::better_of;
 use crate::wide::{are_close, rounds_for};
@@ -43,15 +39,7 @@ pub fn solve_question<R: Threads + Sync, G: Gate + Sync>(
 ) -> Result<Plan, OutOfMemory>
     requires lists { ArePredecessors question.now.game predecessors.now }
     requires starts { All (λ s. s < states question.now) starts.now }
-    ensures lists { IfOk result (λ plan. HasStates plan (states question.now)) }
-    ensures passes { IfOk result (λ plan. Passes question.now plan) }
-    ensures sound { IfOk result (λ plan. IsSoundPlan question.now plan) }
-    ensures sure { IfOk result (λ plan. IsSureExactly question.now plan) }
-    ensures zero { IfOk result (λ plan. IsZeroExactly question.now plan) }
-    ensures choices { IfOk result (λ plan. IsLayeredPlan question.now plan.lower.items plan.choices.items
-        plan.ranks.items) }
-    ensures replies { IfOk result (λ plan. AreFirstReplies question.now
-        (slice_index plan.upper.items) plan.replies.items) }
+    ensures { IfOk result (λ plan. IsSolvedPlan question.now plan) }
 {
     let zero = zero_set_over(alloc, question, predecessors)?;
     let sure = almost_sure_over(alloc, question, predecessors, &zero)?;
@@ -80,7 +68,7 @@ pub fn solve_question<R: Threads + Sync, G: Gate + Sync>(
         &bound,
         starts,
         &plan,
-        &found.bracket,
+        &found.bracket.plan,
     )?;
     // The ranks of a run of rounds prove a better lower table. If the checks refused it all the same, the plan would be
     // worse than the first one.

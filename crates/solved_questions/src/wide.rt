@@ -20,12 +20,7 @@ const MOST_STEPS: u64 = 200_000_000;
 
 /// Returns whether the bounds of a plan are near each other at each of these states, or settle the bound there.
 pub(crate) fn are_close(bound: &Bound, starts: &[u32], plan: &Plan) -> bool {
-    for state in starts {
-        if is_open(bound, plan, *state) && width(plan, *state) > MOST_APART {
-            return false;
-        }
-    }
-    true
+    !starts.iter().any(|state| is_open(bound, plan, *state) && width(plan, *state) > MOST_APART)
 }
 
 /// Returns whether the bounds of a plan at a state do not settle the bound.

@@ -34,8 +34,7 @@ is_stable-stable-requires-clause-quiet g c is =
     let settled : IsSettled q (slice_index lower) × IsSettled c.args.swapped_question (slice_index swapped_values) =
     quiet-over q c.args.swapped_question ending.zero.now
     (bound_of ending.rule.now) ending.initial.now c.args.made.now.most raced lower swapped_values
-    ending.posed c.known.ensures c.requires.zero c.requires.swapped_question c.requires.over lower_is
-    swapped_values_are is in (
+    ending.posed c.requires.zero c.requires.swapped_question c.requires.over lower_is swapped_values_are is in (
       subst (λ (l : List ℕ). IsSettled q (slice_index l)) (sym c.deref.ensures.value) settled.0,
       subst (λ (l : List ℕ). IsSettled c.args.swapped_question (slice_index l)) (sym c.deref-2.ensures.value) settled.1,
     )
@@ -56,7 +55,7 @@ both_sides-requires-clause-parts g c lifetimes within =
     let raced = c.args.raced in
     AreUpperParts-over ending.question.now c.args.swapped_question ending.zero.now (bound_of ending.rule.now)
     ending.initial.now c.args.made.now.most raced c.in_ok-base.base.items c.in_ok-swapped_values.swapped_values.items
-    ending.posed c.known.ensures c.requires.zero c.requires.swapped_question c.requires.over
+    ending.posed c.requires.zero c.requires.swapped_question c.requires.over
     (c.in_ok-base.ensures ∙ ap values_of c.as_slice-2.ensures)
     (c.in_ok-swapped_values.ensures ∙ ap values_of c.as_slice.ensures)
 
@@ -90,11 +89,26 @@ returns g c =
     (slice_index swapped_values) raced.kept c.in_ok-lower.upper) c.deref-3.ensures.value c.in_ok-lower.ensures.upper in
     record {
       bounds = IsBracket-over q swapped_question zero
-          (bound_of ending.rule.now) ending.initial.now c.args.made.now.most raced lower swapped_values
-          ending.posed c.known.ensures c.requires.zero c.requires.swapped_question c.requires.over lower_is
-          swapped_values_are c.in_ok-lower.upper.table.items stable ending.inside above.upper settled;
+          (bound_of ending.rule.now) ending.initial.now c.args.made.now.most raced lower swapped_values ending.posed
+          c.requires.zero c.requires.swapped_question c.requires.over lower_is swapped_values_are
+          c.in_ok-lower.upper.table.items stable ending.inside above.upper settled;
+      lists = record {
+        lower = below.lower.as_many;
+        choices = below.choices.as_many;
+        ranks = below.layered.as_many;
+        upper = above.upper.table.many;
+        replies = above.first.as_many;
+      };
+      passes = record {
+        units = above.upper.table.units;
+        inductive = above.upper.table.inductive;
+        replies = above.good;
+        ranked = below.ranked;
+      };
       lower = below.lower;
       choices = below.choices;
-      ranks = below.ranks;
-      replies = above.replies;
+      layered = below.layered;
+      reached = below.reached;
+      replies = above.first;
+      holds = above.holds;
     }

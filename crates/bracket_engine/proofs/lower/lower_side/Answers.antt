@@ -45,12 +45,10 @@ returns c =
       };
       choices = AreChoices-guessed q c.args.base.now.zero.now base values given choices guess.plan.ranks.items is
           (AreChoices-closed q c.args.words base given c.requires.base c.in_ok-choices.ensures.as_many named);
-      ranks = record {
-        ranked = c.in_ok-guess.ensures.ranked;
-        layered = AreLayered-guessed q c.args.base.now.zero.now base values given choices guess.plan.ranks.items
-            c.args.base.now.posed is;
-        reached = subst (λ (l : List ℕ). ReachesUnder q choices (slice_index l)) c.deref-2.ensures.value
-            (subst (λ (l : List (Option ℕ)). ReachesUnder q l (slice_index c.deref-2.result.now))
-            c.deref-3.ensures.value c.ranks_reach.ensures);
-      };
+      ranked = c.in_ok-guess.ensures.ranked;
+      layered = AreLayered-guessed q c.args.base.now.zero.now base values given choices guess.plan.ranks.items
+          c.args.base.now.posed is;
+      reached = subst (λ (l : List ℕ). ReachesUnder q choices (slice_index l)) c.deref-2.ensures.value
+          (subst (λ (l : List (Option ℕ)). ReachesUnder q l (slice_index c.deref-2.result.now))
+          c.deref-3.ensures.value c.ranks_reach.ensures);
     }

@@ -10,12 +10,10 @@ returns-in_ok-found-in-ByRounds-clause-answer g c =
 
 pub returns-in_ok-lower-in-BySolver-clause-answer : goal.returns-in_ok-lower-in-BySolver-clause-answer
 returns-in_ok-lower-in-BySolver-clause-answer g c =
-    let e = c.in_ok-lower-in-BySolver.ensures in
     by-solver c.args.setting.way c.in-BySolver.is c.args.question.now c.args.bound c.args.starts.now
-    c.in_ok-lower-in-BySolver.field-0 e.lists e.passes e.sound e.sure e.zero
+    c.in_ok-lower-in-BySolver.field-0 c.in_ok-lower-in-BySolver.ensures
 
 pub returns-in_ok-lower-in-BySolver-clause-band : goal.returns-in_ok-lower-in-BySolver-clause-band
 returns-in_ok-lower-in-BySolver-clause-band g c =
-    let e = c.in_ok-lower-in-BySolver.ensures in
     plan-band c.args.question.now (length c.args.setting.game.now) c.in_ok-lower-in-BySolver.field-0
-    (ap length c.requires.game) e.lists e.passes
+    (ap length c.requires.game) c.in_ok-lower-in-BySolver.ensures

@@ -11,19 +11,16 @@ returns-clause-made g c =
     c.in_ok-question.ensures ∙ ap question_of c.in_ok-drawn.ensures.exact in
     made (λ answer. answer.text.items) (λ answer. answer.status) make.seed make.states make.rounds
     c.in_ok-question.question c.in_ok-found.found.zero c.in_ok-found.found.bracket same c.in_ok-found.ensures.zero
-    c.in_ok-found.ensures.found.bounds c.in_ok-found.ensures.found.lower
-    c.write_summary.result c.write_summary.ensures.text c.write_summary.ensures.status
+    c.in_ok-found.ensures.found c.write_summary.result c.write_summary.ensures.text c.write_summary.ensures.status
 
 pub write_summary-requires : goal.write_summary-requires
 write_summary-requires g c =
-    let bounds = c.in_ok-found.ensures.found.bounds in
-    let lower = c.in_ok-found.ensures.found.lower in
+    let found = c.in_ok-found.ensures.found in
     let few = c.known-2.ensures.game.few in
-    let found = c.in_ok-found.found.bracket in
+    let plan = c.in_ok-found.found.bracket.plan in
     record {
       fits = (
-        sum-fits found.lower.items (omega (arith, lower.as_many, few)) lower.units,
-        sum-fits found.upper.items
-            (omega (arith, bounds.made.least_upper.table.many, few)) bounds.made.least_upper.table.units,
+        sum-fits plan.lower.items (omega (arith, found.lists.lower, few)) found.lower.units,
+        sum-fits plan.upper.items (omega (arith, found.lists.upper, few)) found.passes.units,
       );
     }

@@ -21,16 +21,13 @@ returns-clause-report g c =
     let lower = plan.lower.items in
     let upper = plan.upper.items in
     let initial = c.args.posed.now.initial.items in
-    let lists = c.in_ok-plan.ensures.lists in
-    let passes = c.in_ok-plan.ensures.passes in
+    let is_plan = c.in_ok-plan.ensures in
     let agree : (s : ℕ) → s < states q → (plan_line f Solved plan s).verdict ≡ plan_verdict bound plan s = λ s within.
-    let units = plan-units q plan lists passes s within in
+    let units = plan-units q plan is_plan.lists is_plan.passes s within in
     verdict-answered c.mirrored_verdicts_are_those_of_the_dual.ensures f c.requires.share (slice_index lower s)
     (slice_index upper s) units.0 units.1 in
-    solved q c.known.ensures plan lists passes c.in_ok-plan.ensures.sound c.in_ok-plan.ensures.choices
-    c.in_ok-plan.ensures.replies c.make_answer.ensures.ranks
-    (λ answer. answer.text.items) (λ answer. answer.status) initial f c.args.asked c.requires.inside
-    c.in_ok-plan.ensures.sure c.in_ok-plan.ensures.zero
+    solved q c.known.ensures plan is_plan c.make_answer.ensures.ranks (λ answer. answer.text.items)
+    (λ answer. answer.status) initial f c.args.asked c.requires.inside
     (All-weaker (λ s. s < states q) (λ s.
     (plan_line f Solved plan s).verdict ≡ Undecided → LeavesOpen bound (slice_index lower s) (slice_index upper s) 1 0)
     (λ s within is. c.undecided_thresholds_are_left_open.ensures.here bound (slice_index lower s) (slice_index upper s)

@@ -1,33 +1,53 @@
-use Rattle.std.proofs.Common.{List, ℕ, subst}
+use Rattle.std.proofs.Common.{List, ℕ, subst, inl, inr}
+use Rattle.plan_text.specs.declared.plan.Plan.{Plan}
+use Rattle.certificate_audit.specs.Accepted.{Passes}
 use Rattle.certificate_audit.proofs.Soundness.{sound}
 use Rattle.game_model.specs.Query.{states}
 use Rattle.solved_plans.specs.Bounds.{counted, IsLowerOf, IsUpperOf}
 use Rattle.solved_plans.proofs.Bounds.{lower-exactly, lower-never, upper-unit, upper-exactly}
 use Rattle.solved_plans.proofs.plan.hand_out.Goals as goal
 
-pub returns-clause-sound : goal.returns-clause-sound
-returns-clause-sound c = sound c.args.question.now _ c.known.ensures (record {
-  units = c.in_ok-held.ensures.units;
-  inductive = c.in_ok-held.ensures.inductive;
-  replies = c.in_ok-held.ensures.good;
-  ranked = c.in_ok-reached.ensures.ranked;
-})
-
-pub returns-clause-sure : goal.returns-clause-sure
-returns-clause-sure c = record {
-  lower = lower-exactly c.args.question.now c.known.ensures c.args.sure.now c.args.zero.now c.requires.sure
-      c.requires.zero _ _ c.in_ok-reached.ensures.values;
-  upper = upper-unit c.args.question.now c.known.ensures c.args.sure.now c.args.zero.now c.requires.sure c.requires.zero
-      _ _ c.in_ok-held.ensures.values;
-}
-
-pub returns-clause-zero : goal.returns-clause-zero
-returns-clause-zero c = record {
-  upper = upper-exactly c.args.question.now c.args.sure.now c.args.zero.now c.requires.zero _ _
-      c.in_ok-held.ensures.values;
-  lower = lower-never c.args.question.now c.known.ensures c.args.sure.now c.args.zero.now c.requires.sure
-      c.requires.zero _ _ c.in_ok-reached.ensures.values;
-}
+pub returns-clause-plan : goal.returns-clause-plan
+returns-clause-plan c =
+    let q = c.args.question.now in
+    let sure = c.args.sure.now in
+    let zero = c.args.zero.now in
+    let reached = c.in_ok-reached.ensures in
+    let held = c.in_ok-held.ensures in
+    let plan : Plan = record {
+      lower = c.in_ok-reached.reached.values;
+      choices = c.in_ok-reached.reached.plan.choices;
+      ranks = c.in_ok-reached.reached.plan.ranks;
+      upper = c.in_ok-held.held.values;
+      replies = c.in_ok-held.held.replies;
+    } in
+    let passes : Passes q plan = record {
+      units = held.units;
+      inductive = held.inductive;
+      replies = held.good;
+      ranked = reached.ranked;
+    } in
+    record {
+      lists = record {
+        lower = reached.many;
+        choices = reached.layered.as_many;
+        ranks = reached.layered.many;
+        upper = elim held.values [ inl table ↦ table.many | inr table ↦ table.0.many ];
+        replies = held.first.as_many;
+      };
+      passes = passes;
+      sound = sound q plan c.known.ensures passes;
+      sure = record {
+        lower = lower-exactly q c.known.ensures sure zero c.requires.sure c.requires.zero _ _ reached.values;
+        upper = upper-unit q c.known.ensures sure zero c.requires.sure c.requires.zero _ _ held.values;
+      };
+      zero = record {
+        upper = upper-exactly q sure zero c.requires.zero _ _ held.values;
+        lower = lower-never q c.known.ensures sure zero c.requires.sure c.requires.zero _ _ reached.values;
+      };
+      choices = reached.layered;
+      replies = held.first;
+    }
 
 pub returns-clause-bounds : goal.returns-clause-bounds
 returns-clause-bounds c =
