@@ -85,8 +85,8 @@ initial-few paths sources asked problem asks =
     )
 
 -- a report is that of a command that the words denote
-abbrev pub reported_by : {words : List (List ℕ)} {holding : Option Holding} {taken : ℕ} {text : List ℕ} {status : Status}
-    → IsReportOfWords words holding taken text status → DenoteCommand words
+abbrev pub reported_by : {words : List (List ℕ)} {holding : Option Holding} {taken : ℕ} {text : List ℕ}
+    {status : Status} → IsReportOfWords words holding taken text status → DenoteCommand words
 reported_by (of_reach check p f asks report) = (OfCheck check, asks.denoted)
 reported_by (of_within check steps p f asks report) = (OfCheck check, asks.denoted)
 reported_by (of_next check p f asks report) = (OfCheck check, asks.denoted)

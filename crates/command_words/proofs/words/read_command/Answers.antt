@@ -8,8 +8,8 @@ pub returns-in_ok-read_check-in-check : goal.returns-in_ok-read_check-in-check
 returns-in_ok-read_check-in-check c =
     let mapped : MatchOption c.in_ok-read_check-in-check.field-0 (c.map.result ≡ None)
     (λ check. c.map.result ≡ Some (variant.Check check)) = search rules in
-    named check_kind c.args.name.now (map string_bytes c.args.words.now) c.in_ok-read_check-in-check.field-0 c.map.result
-    c.in-check.is mapped c.in_ok-read_check-in-check.ensures
+    named check_kind c.args.name.now (map string_bytes c.args.words.now) c.in_ok-read_check-in-check.field-0
+    c.map.result c.in-check.is mapped c.in_ok-read_check-in-check.ensures
 
 pub returns-in_ok-read_audit-in-audit : goal.returns-in_ok-read_audit-in-audit
 returns-in_ok-read_audit-in-audit c =
