@@ -1,10 +1,10 @@
 //! This module reads and judges the texts of a run, one after another.
 
-ghost use Rattle.std.specs.Prelude.{◌≡◌, ◌≤◌, ◌⊎◌, IsErrOf, IsOk, IfOk, option_map, length};
+ghost use Rattle.std.specs.Prelude.{◌≡◌, ◌≤◌, IfOk, option_map, length};
 ghost use Rattle.text_lines.specs.Limits.{most_bytes};
 ghost use Rattle.asked_files.specs.Sources.{held_own};
 ghost use Rattle.asked_files.specs.Loading.{LoadingLeaves, LoadsText, EndsCaused, fault_of};
-ghost use Rattle.asked_files.specs.Texts.{text_said, game_said, labels_said, owners_said, single_owner};
+ghost use Rattle.asked_files.specs.Texts.{text_said, game_said, labels_said, owners_said};
 
 use formula_sets::PoseFault;
 use game_model::Game;
@@ -140,15 +140,6 @@ pub fn load_owner_file<H: Shelf>(
     }
 }
 
-/// Lets one player own all states.
-pub fn no_owner_file(alloc: Global, states: u32) -> Result<Owners, End>
-    ensures says { IfOk result (λ owners. owners ≡ single_owner states) }
-    ensures sizes { IfOk result (λ owners. length owners.owners ≡ states) }
-    ensures only { IsErrOf result End.OutOfMemory ⊎ IsOk result }
-{
-    Ok(Owners::single(alloc, states)?)
-}
-
 /// Reads the owners of the owner file if one is named. Else one player owns all states.
 pub fn load_owners<H: Shelf>(
     alloc: Global,
@@ -165,7 +156,7 @@ pub fn load_owners<H: Shelf>(
     ensures sizes { IfOk result (λ owners. length owners.owners ≡ states) }
 {
     match own {
-        None => no_owner_file(alloc, states),
+        None => Ok(Owners::single(alloc, states)?),
         Some(name) => load_owner_file(alloc, shelf, name, states),
     }
 }

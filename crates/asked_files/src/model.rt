@@ -1,15 +1,12 @@
 //! This module loads what a command names: a game, its labels, its owners and a formula. It also poses their problem.
 
 ghost use Rattle.std.specs.Prelude.{◌≡◌, ◌≢◌, ◌<◌, ◌↔◌, ◌&&◌, All, Err, IfOk, IsErrOf, false, true};
-ghost use Rattle.game_model.specs.Query.{states};
-ghost use Rattle.rpatl_syntax.specs.Dual.{IsAtMostOne, dual_of};
+ghost use Rattle.rpatl_syntax.specs.Dual.{IsAtMostOne};
 ghost use Rattle.formula_reader.specs.Formula.{IsFlat, is_flat, tree_of};
 ghost use Rattle.formula_reader.specs.Rules.{DenotesFormula};
-ghost use Rattle.formula_sets.specs.Posing.{IsUntil, pose_said, pose_next_said};
-ghost use Rattle.formula_sets.specs.Seen.{posing_of, next_posing_of};
 ghost use Rattle.command_words.specs.Words.{asked_of_words};
 ghost use Rattle.run_refusals.specs.declared.refusal.Refusal.{Refusal};
-ghost use Rattle.asked_files.specs.Said.{Refuses, read_said};
+ghost use Rattle.asked_files.specs.Said.{Refuses};
 ghost use Rattle.asked_files.specs.Loading.{LoadingLeaves, Loads, IsTooLong, ReadsNothing, EndsCaused};
 ghost use Rattle.asked_files.specs.Posed.{HasSizes, any_posed, formula_read, nested_posed, posed, posed_by, reading_of};
 ghost use Rattle.asked_files.specs.Problems.{initial_of, states_of};
@@ -21,7 +18,7 @@ use crate::problem::{Paths, Problem};
 use command_words::AskedWords;
 use formula_reader::laws::formulas_are_those_that_a_text_denotes;
 use formula_reader::{Formula, PathKind, read_formula};
-use formula_sets::{Posed, PosedNext, initial_of, is_flat, pose, pose_next};
+use formula_sets::{initial_of, is_flat, pose, pose_next};
 use formula_tokens::FormulaCause;
 use game_model::Game;
 use game_outside::Shelf;
@@ -156,66 +153,27 @@ fn pose_kind(alloc: Global, loaded: &Loaded) -> Result<Problem<'_>, End>
     ensures form { IfOk result (λ it. HasInside it → ⊥) }
     ensures nothing { ReadsNothing result }
 {
-    match loaded.formula.kind {
+    let game = &loaded.game;
+    let labels = &loaded.labels;
+    let owners = &loaded.owners;
+    let formula = &loaded.formula;
+    match formula.kind {
         PathKind::Until => {
-            let posed = pose_reach(alloc, loaded, &loaded.formula)?;
+            let posed = pose(alloc, game, labels, owners, formula)?;
             Ok(Problem::Reach(posed, None))
         }
         PathKind::Within(steps) => {
-            let posed = pose_reach(alloc, loaded, &loaded.formula)?;
+            let posed = pose(alloc, game, labels, owners, formula)?;
             Ok(Problem::Within(posed, steps))
         }
-        PathKind::Next => Ok(Problem::Next(pose_step(alloc, loaded)?)),
+        PathKind::Next => {
+            let posed = pose_next(alloc, game, labels, owners, formula)?;
+            Ok(Problem::Next(posed))
+        }
         PathKind::Always => {
-            let dual = dual_of_formula(alloc, &loaded.formula)?;
-            let posed = pose_reach(alloc, loaded, &dual)?;
+            let dual = dual(alloc, formula)?;
+            let posed = pose(alloc, game, labels, owners, &dual)?;
             Ok(Problem::Reach(posed, Some(dual)))
         }
     }
-}
-
-// Returns the dual of a formula.
-fn dual_of_formula(alloc: Global, formula: &Formula) -> Result<Formula, End>
-    requires always { formula.now.kind ≡ PathKind.Always }
-    requires share { IsAtMostOne formula.now.bound }
-    ensures dual { IfOk result (λ it. tree_of it ≡ dual_of (tree_of formula.now)) }
-    ensures memory { (end : End) → result ≡ Err end → end ≡ End.OutOfMemory }
-{
-    Ok(dual(alloc, formula)?)
-}
-
-// Poses the question of a formula whose goals are reached.
-fn pose_reach<'g>(alloc: Global, loaded: &'g Loaded, formula: &Formula) -> Result<Posed<'g>, End>
-    requires sizes { HasSizes loaded.now.game loaded.now.labels loaded.now.owners }
-    requires kind { IsUntil formula.now.kind }
-    requires flat { IsFlat (tree_of formula.now) }
-    ensures says { Loads posing_of result
-        (read_said Refusal.OfQuestion (pose_said loaded.now.game loaded.now.labels loaded.now.owners
-        (tree_of formula.now))) }
-    ensures inside { IfOk result (λ posed. All (λ s. s < states posed.question) posed.initial.items) }
-    ensures nothing { ReadsNothing result }
-{
-    let posed = pose(alloc, &loaded.game, &loaded.labels, &loaded.owners, formula)?;
-    Ok(posed)
-}
-
-// Poses the question of a formula with `X`.
-fn pose_step(alloc: Global, loaded: &Loaded) -> Result<PosedNext<'_>, End>
-    requires sizes { HasSizes loaded.now.game loaded.now.labels loaded.now.owners }
-    requires kind { loaded.now.formula.kind ≡ PathKind.Next }
-    requires flat { IsFlat (tree_of loaded.now.formula) }
-    ensures says { Loads next_posing_of result
-        (read_said Refusal.OfQuestion (pose_next_said loaded.now.game loaded.now.labels loaded.now.owners
-        (tree_of loaded.now.formula))) }
-    ensures inside { IfOk result (λ posed. All (λ s. s < states posed.question) posed.initial.items) }
-    ensures nothing { ReadsNothing result }
-{
-    let posed = pose_next(
-        alloc,
-        &loaded.game,
-        &loaded.labels,
-        &loaded.owners,
-        &loaded.formula,
-    )?;
-    Ok(posed)
 }

@@ -1,14 +1,10 @@
 -- The name of a command, and the words behind it.
-use Rattle.std.proofs.Common.{◌≡◌, ◌∙◌, List, ◌∷◌, codes, get_or, Option, Some, None, MatchOption, ap, subst, sym}
-use Rattle.std.proofs.Common.{arith}
+use Rattle.std.proofs.Common.{◌≡◌, ◌∙◌, List, ◌∷◌, codes, get_or, Option, Some, None, MatchOption, ap, refl}
+use Rattle.std.proofs.Common.{arith, subst, sym}
 use Rattle.clap.specs.Words.{Text}
-use Rattle.command_words.specs.declared.words.AskedWords.{AskedWords}
-use Rattle.command_words.specs.declared.words.AuditWords.{AuditWords}
-use Rattle.command_words.specs.declared.words.CheckWords.{CheckWords}
 use Rattle.command_words.specs.declared.words.CommandWords.{CommandWords}
 use Rattle.command_words.specs.declared.words.CommandWords.TheVariants as variant
-use Rattle.command_words.specs.declared.words.SolveWords.{SolveWords}
-use Rattle.command_words.specs.Words.{Asked, Audit, Check, Command, Solve, OfAudit, OfCheck, OfMake, OfSolve, OfSure}
+use Rattle.command_words.specs.Words.{Asked, Audit, Check, Command, Solve, OfAudit, OfCheck, OfSolve, OfSure}
 use Rattle.command_words.specs.Words.{AreAuditWords, AreCheckWords, AreSolveWords, AreSureWords, AreCommand}
 use Rattle.command_words.specs.Words.{AreNoCommand, AreWordsOf, asked_of_words, audit_of, check_of, command_of, name_of}
 use Rattle.command_words.specs.Words.{solve_of}
@@ -33,86 +29,59 @@ begun name words command are =
 abbrev IsAnswer : List Text → Option CommandWords → Type 0
 IsAnswer words read = MatchOption read (AreNoCommand words) (λ command. AreCommand words (command_of command))
 
--- words that `check` does not take denote no command of its name
+-- These are the words of the commands of one name, and what is read of them denotes such a command.
+pub record IsKind {Seen Told : Type 0} (told : Seen → Told) (Are : List Text → Told → Type 0)
+    (made : Seen → CommandWords) (name : Text) : Type 0 where
+  pub begins : (words : List Text) (seen : Seen) → Are words (told seen)
+      → AreCommand (name ∷ words) (command_of (made seen))
+  pub alone : (words : List Text) (command : Command) → ((t : Told) → Are words t → ⊥) → name_of command ≡ name
+      → AreWordsOf command words → ⊥
+
+-- what is read of the words behind the name is the answer to all the words
+pub named : {Seen Told : Type 0} {told : Seen → Told} {Are : List Text → Told → Type 0} {made : Seen → CommandWords}
+    {kind : Text} (is_kind : IsKind told Are made kind) (name : Text) (words : List Text) (found : Option Seen)
+    (read : Option CommandWords) → name ≡ kind → MatchOption found (read ≡ None) (λ seen. read ≡ Some (made seen))
+    → MatchOption found ((t : Told) → Are words t → ⊥) (λ seen. Are words (told seen)) → IsAnswer (name ∷ words) read
+named is_kind name words None read same is none =
+    subst (λ (r : Option CommandWords). IsAnswer (name ∷ words) r) (sym is) (λ command are.
+    let parts = begun name words command are in
+    is_kind.alone words command none (parts.0 ∙ same) parts.1)
+named {Seen} {Told} {told} {Are} {made} is_kind name words (Some seen) read same is are =
+    subst (λ (r : Option CommandWords). IsAnswer (name ∷ words) r) (sym is)
+    (subst (λ (n : Text). AreCommand (n ∷ words) (command_of (made seen))) (sym same) (is_kind.begins words seen are))
+
 not_check : (words : List Text) (command : Command) → ((check : Check) → AreCheckWords words check → ⊥)
     → name_of command ≡ codes "check" → AreWordsOf command words → ⊥
 not_check words (OfCheck check) none named are = none check are
-not_check words (OfAudit audit) none named are = absurd (omega (arith, first_byte named))
-not_check words (OfSolve solve) none named are = absurd (omega (arith, first_byte named))
-not_check words (OfMake make) none named are = absurd (omega (arith, first_byte named))
-not_check words (OfSure asked) none named are = absurd (omega (arith, first_byte named))
+not_check words command none named are = absurd (omega (arith, first_byte named, second_byte named))
 
-pub check_named : (name : Text) (words : List Text) (found : Option CheckWords) (read : Option CommandWords)
-    → name ≡ codes "check" → MatchOption found (read ≡ None) (λ check. read ≡ Some (variant.Check check))
-    → MatchOption found ((check : Check) → AreCheckWords words check → ⊥)
-    (λ check. AreCheckWords words (check_of check)) → IsAnswer (name ∷ words) read
-check_named name words None read named is none =
-    subst (λ (r : Option CommandWords). IsAnswer (name ∷ words) r) (sym is) (λ command are.
-    let parts = begun name words command are in
-    not_check words command none (parts.0 ∙ named) parts.1)
-check_named name words (Some check) read named is are =
-    subst (λ (r : Option CommandWords). IsAnswer (name ∷ words) r) (sym is)
-    (record { rest = words; words_are = ap (λ (w : Text). w ∷ words) named; behind = are })
+pub check_kind : IsKind check_of AreCheckWords variant.Check (codes "check")
+check_kind =
+    record { begins = λ words check are. record { rest = words; words_are = refl; behind = are }; alone = not_check }
 
--- and so for `audit`
 not_audit : (words : List Text) (command : Command) → ((audit : Audit) → AreAuditWords words audit → ⊥)
     → name_of command ≡ codes "audit" → AreWordsOf command words → ⊥
-not_audit words (OfCheck check) none named are = absurd (omega (arith, first_byte named))
 not_audit words (OfAudit audit) none named are = none audit are
-not_audit words (OfSolve solve) none named are = absurd (omega (arith, first_byte named))
-not_audit words (OfMake make) none named are = absurd (omega (arith, first_byte named))
-not_audit words (OfSure asked) none named are = absurd (omega (arith, first_byte named))
+not_audit words command none named are = absurd (omega (arith, first_byte named, second_byte named))
 
-pub audit_named : (name : Text) (words : List Text) (found : Option AuditWords) (read : Option CommandWords)
-    → name ≡ codes "audit" → MatchOption found (read ≡ None) (λ audit. read ≡ Some (variant.Audit audit))
-    → MatchOption found ((audit : Audit) → AreAuditWords words audit → ⊥)
-    (λ audit. AreAuditWords words (audit_of audit)) → IsAnswer (name ∷ words) read
-audit_named name words None read named is none =
-    subst (λ (r : Option CommandWords). IsAnswer (name ∷ words) r) (sym is) (λ command are.
-    let parts = begun name words command are in
-    not_audit words command none (parts.0 ∙ named) parts.1)
-audit_named name words (Some audit) read named is are =
-    subst (λ (r : Option CommandWords). IsAnswer (name ∷ words) r) (sym is)
-    (record { rest = words; words_are = ap (λ (w : Text). w ∷ words) named; behind = are })
+pub audit_kind : IsKind audit_of AreAuditWords variant.Audit (codes "audit")
+audit_kind =
+    record { begins = λ words audit are. record { rest = words; words_are = refl; behind = are }; alone = not_audit }
 
--- and so for `solve`
 not_solve : (words : List Text) (command : Command) → ((solve : Solve) → AreSolveWords words solve → ⊥)
     → name_of command ≡ codes "solve" → AreWordsOf command words → ⊥
-not_solve words (OfCheck check) none named are = absurd (omega (arith, first_byte named))
-not_solve words (OfAudit audit) none named are = absurd (omega (arith, first_byte named))
 not_solve words (OfSolve solve) none named are = none solve are
-not_solve words (OfMake make) none named are = absurd (omega (arith, first_byte named))
-not_solve words (OfSure asked) none named are = absurd (omega (arith, second_byte named))
+not_solve words command none named are = absurd (omega (arith, first_byte named, second_byte named))
 
-pub solve_named : (name : Text) (words : List Text) (found : Option SolveWords) (read : Option CommandWords)
-    → name ≡ codes "solve" → MatchOption found (read ≡ None) (λ solve. read ≡ Some (variant.Solve solve))
-    → MatchOption found ((solve : Solve) → AreSolveWords words solve → ⊥)
-    (λ solve. AreSolveWords words (solve_of solve)) → IsAnswer (name ∷ words) read
-solve_named name words None read named is none =
-    subst (λ (r : Option CommandWords). IsAnswer (name ∷ words) r) (sym is) (λ command are.
-    let parts = begun name words command are in
-    not_solve words command none (parts.0 ∙ named) parts.1)
-solve_named name words (Some solve) read named is are =
-    subst (λ (r : Option CommandWords). IsAnswer (name ∷ words) r) (sym is)
-    (record { rest = words; words_are = ap (λ (w : Text). w ∷ words) named; behind = are })
+pub solve_kind : IsKind solve_of AreSolveWords variant.Solve (codes "solve")
+solve_kind =
+    record { begins = λ words solve are. record { rest = words; words_are = refl; behind = are }; alone = not_solve }
 
--- and so for `sure`
 not_sure : (words : List Text) (command : Command) → ((asked : Asked) → AreSureWords words asked → ⊥)
     → name_of command ≡ codes "sure" → AreWordsOf command words → ⊥
-not_sure words (OfCheck check) none named are = absurd (omega (arith, first_byte named))
-not_sure words (OfAudit audit) none named are = absurd (omega (arith, first_byte named))
-not_sure words (OfSolve solve) none named are = absurd (omega (arith, second_byte named))
-not_sure words (OfMake make) none named are = absurd (omega (arith, first_byte named))
 not_sure words (OfSure asked) none named are = none asked are
+not_sure words command none named are = absurd (omega (arith, first_byte named, second_byte named))
 
-pub sure_named : (name : Text) (words : List Text) (found : Option AskedWords) (read : Option CommandWords)
-    → name ≡ codes "sure" → MatchOption found (read ≡ None) (λ asked. read ≡ Some (variant.Sure asked))
-    → MatchOption found ((asked : Asked) → AreSureWords words asked → ⊥)
-    (λ asked. AreSureWords words (asked_of_words asked)) → IsAnswer (name ∷ words) read
-sure_named name words None read named is none =
-    subst (λ (r : Option CommandWords). IsAnswer (name ∷ words) r) (sym is) (λ command are.
-    let parts = begun name words command are in
-    not_sure words command none (parts.0 ∙ named) parts.1)
-sure_named name words (Some asked) read named is are =
-    subst (λ (r : Option CommandWords). IsAnswer (name ∷ words) r) (sym is)
-    (record { rest = words; words_are = ap (λ (w : Text). w ∷ words) named; behind = are })
+pub sure_kind : IsKind asked_of_words AreSureWords variant.Sure (codes "sure")
+sure_kind =
+    record { begins = λ words asked are. record { rest = words; words_are = refl; behind = are }; alone = not_sure }

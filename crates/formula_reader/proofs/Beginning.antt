@@ -26,30 +26,28 @@ pub record Begins (us : List (List ℕ)) : Type 0 where
   pub no_always : bytes_eq first (codes "G") ≡ false
   pub no_bound : bytes_eq first (codes "<=") ≡ false
 
-begins_on : (sign : List ℕ) (us vs : List (List ℕ)) → Begins us → Begins (between us sign vs)
-begins_on sign us vs b = record {
-  first = b.first;
-  others = b.others ++ sign ∷ vs;
-  whole = ap (λ ts. ts ++ sign ∷ vs) b.whole;
-  no_reach = b.no_reach;
-  no_next = b.no_next;
-  no_always = b.no_always;
-  no_bound = b.no_bound;
+starts : {us : List (List ℕ)} (first : List ℕ) (others : List (List ℕ)) → us ≡ first ∷ others
+    → bytes_eq first (codes "F") ≡ false → bytes_eq first (codes "X") ≡ false → bytes_eq first (codes "G") ≡ false
+    → bytes_eq first (codes "<=") ≡ false → Begins us
+starts first others whole reach next always bound = record {
+  first = first;
+  others = others;
+  whole = whole;
+  no_reach = reach;
+  no_next = next;
+  no_always = always;
+  no_bound = bound;
 }
+
+begins_on : (sign : List ℕ) (us vs : List (List ℕ)) → Begins us → Begins (between us sign vs)
+begins_on sign us vs b = starts b.first (b.others ++ sign ∷ vs) (ap (λ ts. ts ++ sign ∷ vs) b.whole) b.no_reach
+    b.no_next b.no_always b.no_bound
 
 label_begins : (token : List ℕ) → is_quoted token ≡ true → Begins (token ∷ [])
 label_begins token e =
     let q = quoted_begins token e in
     let P : List ℕ → Type 0 = λ t. Begins (t ∷ []) in
-    subst P (sym q.1) (record {
-      first = 34 ∷ q.0;
-      others = [];
-      whole = refl;
-      no_reach = refl;
-      no_next = refl;
-      no_always = refl;
-      no_bound = refl;
-    })
+    subst P (sym q.1) (starts (34 ∷ q.0) [] refl refl refl refl refl)
 
 -- a formula inside begins with `P` or `<<`
 abbrev pub BeginsInner : List (List ℕ) → Type 0
@@ -75,64 +73,16 @@ inner_begins team asks back (Some names) b n d c =
 
 inner_is_begun : (us : List (List ℕ)) → BeginsInner us → Begins us
 inner_is_begun us b = elim b [
-  | inl p ↦ record {
-    first = codes "P";
-    others = p.0;
-    whole = p.1;
-    no_reach = refl;
-    no_next = refl;
-    no_always = refl;
-    no_bound = refl;
-  }
-  | inr t ↦ record {
-    first = codes "<<";
-    others = t.0;
-    whole = t.1;
-    no_reach = refl;
-    no_next = refl;
-    no_always = refl;
-    no_bound = refl;
-  }
+  | inl p ↦ starts (codes "P") p.0 p.1 refl refl refl refl
+  | inr t ↦ starts (codes "<<") t.0 t.1 refl refl refl refl
 ]
 
 mutual
   unary_begins : (room : ℕ) (us : List (List ℕ)) (x : State) → IsUnary room us x → Begins us
-  unary_begins _ _ _ (negation room us x d) = record {
-    first = codes "!";
-    others = us;
-    whole = refl;
-    no_reach = refl;
-    no_next = refl;
-    no_always = refl;
-    no_bound = refl;
-  }
-  unary_begins _ _ _ (brackets room us x d) = record {
-    first = codes "(";
-    others = us ++ codes ")" ∷ [];
-    whole = refl;
-    no_reach = refl;
-    no_next = refl;
-    no_always = refl;
-    no_bound = refl;
-  }
-  unary_begins _ _ _ (everywhere room) = record {
-    first = codes "true";
-    others = [];
-    whole = refl;
-    no_reach = refl;
-    no_next = refl;
-    no_always = refl;
-    no_bound = refl;
-  }
-  unary_begins _ _ _ (nowhere room) = record {
-    first = codes "false";
-    others = [];
-    whole = refl;
-    no_reach = refl;
-    no_next = refl;
-    no_always = refl;
-    no_bound = refl;
-  }
+  unary_begins _ _ _ (negation room us x d) = starts (codes "!") us refl refl refl refl refl
+  unary_begins _ _ _ (brackets room us x d) = starts (codes "(") (us ++ codes ")" ∷ []) refl refl refl refl refl
+  unary_begins _ _ _ (everywhere room) = starts (codes "true") [] refl refl refl refl refl
+  unary_begins _ _ _ (nowhere room) = starts (codes "false") [] refl refl refl refl refl
   unary_begins _ _ _ (label room token q) = label_begins token q
   unary_begins _ _ _ (inside room team asks sides f n b c d) = inner_is_begun (formula_of team asks sides)
       (inner_begins team asks (codes "[" ∷ (sides ++ codes "]" ∷ [])) f.coalition f.bound n b c)

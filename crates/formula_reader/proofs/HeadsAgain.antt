@@ -172,9 +172,6 @@ no_team us vs first others other e ts rest s =
 -- a bound does not begin a coalition
 pub no_coalition : (us vs : List (List ℕ)) (b : Bound) → IsBound us b → (ts rest : Tokens) → Spans ts (us ++ vs) rest
     → follows (codes "<<") ts ≡ None
-no_coalition us vs (AtLeast p) d ts rest s = no_team us vs (codes "P") _ refl d.1 ts rest s
-no_coalition us vs (Above p) d ts rest s = no_team us vs (codes "P") _ refl d.1 ts rest s
-no_coalition us vs (AtMost p) d ts rest s = no_team us vs (codes "P") _ refl d.1 ts rest s
-no_coalition us vs (Below p) d ts rest s = no_team us vs (codes "P") _ refl d.1 ts rest s
 no_coalition us vs AskMax d ts rest s = no_team us vs (codes "Pmax") _ refl d ts rest s
 no_coalition us vs AskMin d ts rest s = no_team us vs (codes "Pmin") _ refl d ts rest s
+no_coalition us vs b d ts rest s = no_team us vs (codes "P") _ refl d.1 ts rest s

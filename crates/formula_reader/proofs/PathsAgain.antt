@@ -1,5 +1,5 @@
 -- A path is read where its state formulas are read.
-use Rattle.std.proofs.Common.{◌≡◌, ◌∙◌, ℕ, List, ◌∷◌, cond, None, Result, Ok, ap, subst}
+use Rattle.std.proofs.Common.{◌≡◌, ◌∙◌, ℕ, List, ◌∷◌, cond, None, Result, Ok, ap, refl, subst, sym}
 use Rattle.std.specs.Prelude.{codes, bytes_eq}
 use Rattle.text_lines.specs.Text.{number_of}
 use Rattle.formula_tokens.specs.declared.fault.FormulaFault.{FormulaFault}
@@ -83,11 +83,8 @@ until_again state us vs x p b reads ts rest s goes_on =
     let sign = cut.2 in
     let P : List (List ℕ) → Type 0 = λ ws. Spans ts ws cut.0 in
     let t : Spans ts (b.first ∷ b.others) cut.0 = subst P b.whole cut.1 in
-    let closes : Closes cut.0 = record {
-      and = ap (follows (codes "&")) sign.2;
-      or = ap (follows (codes "|")) sign.2;
-      implies = ap (follows (codes "=>")) sign.2;
-    } in
+    let closes : Closes cut.0 =
+    subst (λ (t : Tokens). Closes t) (sym sign.2) (record { and = refl; or = refl; implies = refl }) in
     let on : State × Tokens → Result (Path × Tokens) FormulaFault =
     λ l. behind (codes "U") l.1 >>= λ after. reached state l.0 after in
     ap (λ r. r >>= λ token. cond (is token (codes "F")) (reached state True token.after)

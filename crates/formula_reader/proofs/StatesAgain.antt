@@ -51,11 +51,8 @@ unfolding nested
 sides_from room us p reads ts rest s =
     let cut = spans_split us (codes "]" ∷ []) s.1 rest s.3 in
     let close = cut.2 in
-    let closes : Closes cut.0 = record {
-      and = ap (follows (codes "&")) close.2;
-      or = ap (follows (codes "|")) close.2;
-      implies = ap (follows (codes "=>")) close.2;
-    } in
+    let closes : Closes cut.0 =
+    subst (λ (t : Tokens). Closes t) (sym close.2) (record { and = refl; or = refl; implies = refl }) in
     ap (sides (nested (suc room))) s.2
     ∙ ap (λ r. r >>= λ q. behind (codes "]") q.1 >>= λ after. Ok (q.0, after)) (reads s.1 cut.0 cut.1 closes)
     ∙ ap (λ r. r >>= λ after. Ok (p, after)) (ap (behind (codes "]")) close.2)
@@ -97,11 +94,8 @@ mutual
   unary_again _ _ _ (brackets room us x d) ts rest s =
       let cut = spans_split us (codes ")" ∷ []) s.1 rest s.3 in
       let close = cut.2 in
-      let closes : Closes cut.0 = record {
-        and = ap (follows (codes "&")) close.2;
-        or = ap (follows (codes "|")) close.2;
-        implies = ap (follows (codes "=>")) close.2;
-      } in
+      let closes : Closes cut.0 =
+      subst (λ (t : Tokens). Closes t) (sym close.2) (record { and = refl; or = refl; implies = refl }) in
       let inner = reads_from room us x (λ t r u a o. state_stands room us x d t r u a o) s.1 cut.0 cut.1 closes in
       let behind_it : behind (codes ")") cut.0 ≡ Ok rest =
       ap (behind (codes ")")) close.2 ∙ ap (λ (t : Tokens). Ok t) close.3 in

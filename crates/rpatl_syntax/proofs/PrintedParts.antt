@@ -41,12 +41,9 @@ bound_derived AskMax is = refl
 bound_derived AskMin is = refl
 
 pub threshold_share : (b : Bound) → HasThreshold b → HasShare b
-threshold_share (AtLeast p) h = h
-threshold_share (Above p) h = h
-threshold_share (AtMost p) h = h
-threshold_share (Below p) h = h
 threshold_share AskMax h = absurd h
 threshold_share AskMin h = absurd h
+threshold_share b h = h
 
 -- 2. Paths.
 

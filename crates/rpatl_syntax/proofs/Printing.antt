@@ -3,7 +3,7 @@ use Rattle.std.proofs.Common.{◌+◌, ◌≤◌, ℕ, zero, suc, List, [], ◌�
 use Rattle.std.specs.Prelude.{codes}
 use Rattle.std.proofs.Math.Nat.{le-max_left, le-max_right}
 use Rattle.formula_reader.specs.declared.formula.Bound.{Bound}
-use Rattle.formula_reader.specs.declared.formula.Bound.TheVariants.{AtLeast, Above, AtMost, Below, AskMax, AskMin}
+use Rattle.formula_reader.specs.declared.formula.Bound.TheVariants.{AskMax, AskMin}
 use Rattle.formula_reader.specs.declared.formula.PathKind.{PathKind}
 use Rattle.formula_reader.specs.Formula.{State, True, False, Label, Not, And, Or, Implies, Inner}
 use Rattle.formula_reader.specs.Rules.{IsState, IsEither, IsBoth, IsUnary, Compares, plain_state, implies, plain_either}
@@ -49,14 +49,10 @@ in_brackets (suc room) x d h = brackets room (state_tokens x) x (lifted room x (
 
 to_unary : (room : ℕ) (x : State) → Derives x → need_in 3 x (need x) ≤ room
     → IsUnary room (tokens_in 3 x (state_tokens x)) x
-to_unary room True d h = d room h
-to_unary room False d h = d room h
-to_unary room (Label name) d h = d room h
-to_unary room (Not x) d h = d room h
 to_unary room (And x y) d h = in_brackets room (And x y) d h
 to_unary room (Or x y) d h = in_brackets room (Or x y) d h
 to_unary room (Implies x y) d h = in_brackets room (Implies x y) d h
-to_unary room (Inner team bound kind x y) d h = d room h
+to_unary room x d h = d room h
 
 to_both : (room : ℕ) (x : State) → Derives x → need_in 2 x (need x) ≤ room
     → IsBoth room (tokens_in 2 x (state_tokens x)) x
@@ -98,12 +94,9 @@ derives_not zero x d h = absurd (omega (arith, h))
 derives_not (suc room) x d h = negation room (tokens_in 3 x (state_tokens x)) x (to_unary room x d (omega (arith, h)))
 
 compares_from : (b : Bound) → HasThreshold b → Compares b
-compares_from (AtLeast p) h = tt
-compares_from (Above p) h = tt
-compares_from (AtMost p) h = tt
-compares_from (Below p) h = tt
 compares_from AskMax h = absurd h
 compares_from AskMin h = absurd h
+compares_from b h = tt
 
 derives_inner : (room : ℕ) (team : Option (List (List ℕ))) (bound : Bound) (kind : PathKind) (x y : State)
     → HasHead team bound kind x → Derives x → Derives y → need (Inner team bound kind x y) ≤ room

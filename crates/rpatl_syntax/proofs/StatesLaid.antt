@@ -134,13 +134,7 @@ lays_left x us rest lays e =
 lays_until : (left : State) (x : List ℕ) (us : List (List ℕ)) (rest : List ℕ) → LaysWhereEnds x us → Ends rest
     → Lays (until_spelling left x) (until_tokens left us) rest
 lays_until True x us rest lays e = lays_token 70 [] rest (ap (λ n. Spelling (n + 1)) e)
-lays_until False x us rest lays e = lays_left x us rest lays e
-lays_until (Label name) x us rest lays e = lays_left x us rest lays e
-lays_until (Not y) x us rest lays e = lays_left x us rest lays e
-lays_until (And y z) x us rest lays e = lays_left x us rest lays e
-lays_until (Or y z) x us rest lays e = lays_left x us rest lays e
-lays_until (Implies y z) x us rest lays e = lays_left x us rest lays e
-lays_until (Inner team bound kind y z) x us rest lays e = lays_left x us rest lays e
+lays_until left x us rest lays e = lays_left x us rest lays e
 
 lays_steps : (k : ℕ) → k ≤ most_steps → (rest : List ℕ)
     → Lays (codes "<=" ++ decimal k) (codes "<=" ∷ decimal k ∷ []) (32 ∷ rest)

@@ -31,21 +31,15 @@ pub record HasPlainParts (f : Tree) : Type 0 where
   pub right : HasParts f.right
 
 share-fine : (bound : Bound) → HasShare bound → HasFine bound
-share-fine (AtLeast p) share = (share.small, share.fraction.fine)
-share-fine (Above p) share = (share.small, share.fraction.fine)
-share-fine (AtMost p) share = (share.small, share.fraction.fine)
-share-fine (Below p) share = (share.small, share.fraction.fine)
 share-fine AskMax share = tt
 share-fine AskMin share = tt
+share-fine bound share = (share.small, share.fraction.fine)
 
 -- that of a formula inside too
 pub threshold-fine : (bound : Bound) → HasThreshold bound → HasFine bound
-threshold-fine (AtLeast p) share = (share.small, share.fraction.fine)
-threshold-fine (Above p) share = (share.small, share.fraction.fine)
-threshold-fine (AtMost p) share = (share.small, share.fraction.fine)
-threshold-fine (Below p) share = (share.small, share.fraction.fine)
 threshold-fine AskMax share = absurd share
 threshold-fine AskMin share = absurd share
+threshold-fine bound share = (share.small, share.fraction.fine)
 
 pub spellable-plain : (f : Tree) → IsSpellable f → HasPlainParts f
 spellable-plain f is = record {
@@ -57,12 +51,9 @@ spellable-plain f is = record {
 }
 
 dual-fine : (bound : Bound) → HasFine bound → HasFine (dual_bound bound)
-dual-fine (AtLeast p) fine = (omega arith, fine.1)
-dual-fine (Above p) fine = (omega arith, fine.1)
-dual-fine (AtMost p) fine = (omega arith, fine.1)
-dual-fine (Below p) fine = (omega arith, fine.1)
 dual-fine AskMax fine = tt
 dual-fine AskMin fine = tt
+dual-fine bound fine = (omega arith, fine.1)
 
 -- so has the formula whose question is answered
 pub answered-plain : (f : Tree) → HasPlainParts f → HasPlainParts (answered f)

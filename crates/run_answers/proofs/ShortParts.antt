@@ -7,7 +7,7 @@ use Rattle.std.proofs.lemmas.Fmt.{length-decimal-le_wide}
 use Rattle.fractions.specs.Fraction.{Fraction}
 use Rattle.formula_reader.specs.declared.formula.Bound.{Bound}
 use Rattle.formula_reader.specs.declared.formula.Bound.TheVariants.{AtLeast, Above, AtMost, Below, AskMax, AskMin}
-use Rattle.formula_reader.specs.Formula.{State, True, False, Label, Not, And, Or, Implies, Inner}
+use Rattle.formula_reader.specs.Formula.{State, True}
 use Rattle.formula_tokens.specs.Reading.{is_number}
 use Rattle.formula_reader.specs.declared.formula.PathKind.{PathKind}
 use Rattle.formula_reader.specs.declared.formula.PathKind.TheVariants.{Within}
@@ -38,13 +38,7 @@ cut-short _ _ (token spelling rest tokens is cut) =
 
 pub until-short : (left : State) (x : List ℕ) → length (until_spelling left x) ≤ length x + 2
 until-short True x = omega arith
-until-short False x = omega (arith, length-append x (codes " U"))
-until-short (Label name) x = omega (arith, length-append x (codes " U"))
-until-short (Not y) x = omega (arith, length-append x (codes " U"))
-until-short (And y z) x = omega (arith, length-append x (codes " U"))
-until-short (Or y z) x = omega (arith, length-append x (codes " U"))
-until-short (Implies y z) x = omega (arith, length-append x (codes " U"))
-until-short (Inner team bound kind y z) x = omega (arith, length-append x (codes " U"))
+until-short left x = omega (arith, length-append x (codes " U"))
 
 -- a number of steps
 steps-short : (k : ℕ) → k ≤ 1000000 → length (decimal k) ≤ 7

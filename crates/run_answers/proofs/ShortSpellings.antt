@@ -7,7 +7,7 @@ use Rattle.std.proofs.lemmas.List.{length-append, length-take}
 use Rattle.formula_reader.specs.Formula.{State, True, Not, Tree}
 use Rattle.formula_tokens.specs.Reading.{is_quoted, unquoted}
 use Rattle.formula_reader.specs.declared.formula.PathKind.{PathKind}
-use Rattle.formula_reader.specs.declared.formula.PathKind.TheVariants.{Until, Within, Next, Always}
+use Rattle.formula_reader.specs.declared.formula.PathKind.TheVariants.{Until, Always}
 use Rattle.rpatl_syntax.specs.Dual.{dual_of, answered_by, answered}
 use Rattle.formula_tokens.specs.Limits.{longest}
 use Rattle.formula_reader.specs.Rules.{between, IsState, IsEither, IsBoth, IsUnary, IsPath, plain_state, implies}
@@ -159,11 +159,9 @@ answered-short ts f is parts = by f.kind refl parts
   where
     by : (kind : PathKind) → f.kind ≡ kind → HasPlainParts (answered_by kind f)
         → length (spelling (answered_by kind f)) ≤ 30 * bytes_in ts + 138
-    by Until of plain = parts-short ts f f is refl plain.fine (path-fits _ is.sides f.kind f.left f.right is.path)
-    by (Within k) of plain = parts-short ts f f is refl plain.fine (path-fits _ is.sides f.kind f.left f.right is.path)
-    by Next of plain = parts-short ts f f is refl plain.fine (path-fits _ is.sides f.kind f.left f.right is.path)
     by Always of plain =
         parts-short ts f (dual_of f) is refl plain.fine (dual-fits _ is.sides f.kind f.left f.right is.path of)
+    by kind of plain = parts-short ts f f is refl plain.fine (path-fits _ is.sides f.kind f.left f.right is.path)
 
 -- the most bytes of the spelling of a formula that was read, or of its dual
 abbrev pub most_spelled : ℕ

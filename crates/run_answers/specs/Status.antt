@@ -21,9 +21,4 @@ abbrev pub IsAnswer : Status → Type 0
 IsAnswer Fine = Unit {0}
 IsAnswer SomeFalse = Unit {0}
 IsAnswer SomeUndecided = Unit {0}
-IsAnswer Usage = ⊥
-IsAnswer ModelRefused = ⊥
-IsAnswer ReadFault = ⊥
-IsAnswer WriteFault = ⊥
-IsAnswer OutOfMemory = ⊥
-IsAnswer CertificateRefused = ⊥
+IsAnswer status = ⊥

@@ -33,33 +33,18 @@ ChoiceInFull (choice.BadSum sum denominator) = AreInFull sum denominator
 
 -- The numbers that say why a transition text is refused are written in full.
 abbrev pub TraInFull : TraCause → Type 0
-TraInFull tra.OutOfMemory = Unit {0}
-TraInFull tra.NoHeader = Unit {0}
-TraInFull tra.BadField = Unit {0}
-TraInFull tra.FieldCount = Unit {0}
-TraInFull tra.OverLimit = Unit {0}
-TraInFull tra.NoStates = Unit {0}
-TraInFull tra.StateOutOfRange = Unit {0}
-TraInFull (tra.Number fault) = Unit {0}
 TraInFull (tra.ActionClash state k) = AreInFull state k
 TraInFull (tra.LineCount read stated) = AreInFull read stated
 TraInFull (tra.ChoiceGap state k) = AreInFull state k
 TraInFull (tra.TooManyChoices state) = IsInFull state
 TraInFull (tra.ChoiceCount read stated) = AreInFull read stated
 TraInFull (tra.Choice state k fault) = AreInFull state k × ChoiceInFull fault
+TraInFull cause = Unit {0}
 
 -- If a number says why a label or owner text is refused, it is written in full.
 abbrev pub LabInFull : LabCause → Type 0
-LabInFull lab.OutOfMemory = Unit {0}
-LabInFull lab.NoHeader = Unit {0}
-LabInFull lab.BadHeader = Unit {0}
-LabInFull lab.DoubleName = Unit {0}
-LabInFull lab.DoubleIndex = Unit {0}
-LabInFull lab.BadField = Unit {0}
-LabInFull lab.StateOutOfRange = Unit {0}
-LabInFull lab.UnknownIndex = Unit {0}
-LabInFull lab.OverLimit = Unit {0}
 LabInFull (lab.TwoOwners state) = IsInFull state
+LabInFull cause = Unit {0}
 
 -- If an upper table is refused for a choice, the number of the choice is written in full.
 abbrev pub UpperInFull : UpperCause → Type 0

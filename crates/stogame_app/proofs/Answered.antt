@@ -1,9 +1,9 @@
 -- The answer to a command that asks a question, from what its parts answered.
 use Rattle.std.proofs.Common.{◌≡◌, ◌<◌, ◌≤◌, ◌∙◌, All, inl, inr, ℕ, Bool, true, List, Option, Some, None, Result, Ok}
-use Rattle.std.proofs.Common.{Err, ap, subst, arith}
+use Rattle.std.proofs.Common.{Err, ap, subst}
 use Rattle.std.specs.Prelude.{IfOk, IsErrOf}
 use Rattle.text_lines.specs.Limits.{most_bytes}
-use Rattle.game_outside.specs.Outside.{Holding, KeepsShelf}
+use Rattle.game_outside.specs.Outside.{Holding}
 use Rattle.game_model.specs.Query.{states}
 use Rattle.command_words.specs.Words.{Asked, Check, Audit, Solve, Command, OfCheck, OfAudit, OfSolve, OfSure}
 use Rattle.command_words.specs.Words.{AreCommand}
@@ -17,9 +17,10 @@ use Rattle.formula_sets.specs.Posing.{Posing}
 use Rattle.asked_files.specs.Problems.{Problem, OfReach, OfWithin, OfNext, OfNested, initial_of, posing_in, states_of}
 use Rattle.asked_files.specs.Said.{Said, NotHeld, Refuses, and_then}
 use Rattle.asked_files.specs.Sources.{Sources, SourceWith, IfKnown, sources_of}
-use Rattle.asked_files.specs.Loading.{IsTooLong, LoadingLeaves, Loads, ReadsNothing, EndsCaused, Takes}
+use Rattle.asked_files.specs.Loading.{IsTooLong, LoadingLeaves, Loads, ReadsNothing, EndsCaused}
 use Rattle.asked_files.specs.Posed.{Reading, posed, reading_said}
 use Rattle.asked_files.specs.Asks.{Asks}
+use Rattle.asked_files.proofs.Leaving.{answer_leaves, answer_small, both_leave, end_leaves, other_end}
 use Rattle.asked_files.specs.Questions.{LacksText, LacksValues, PosesIt, Reads, ReadsAs, RefusesCertificate}
 use Rattle.asked_files.specs.Questions.{RefusesQuestion, RefusesValues}
 use Rattle.run_answers.specs.declared.answer.Answer.{Answer}
@@ -28,30 +29,44 @@ use Rattle.stogame_app.specs.Commands.{IsMissing, ReadsFiles, RefusesIt, check_p
 use Rattle.stogame_app.specs.Reports.{IsReportOfWords}
 use Rattle.stogame_app.specs.inside.Answers.{IsAnswered, IsMadeOf}
 
--- 1. An end is the same of another answer.
-
-same_end : {X Y : Type 0} (end other : End) → ◌≡◌ {A = Result X End} (Err end) (Err other)
-    → ◌≡◌ {A = Result Y End} (Err end) (Err other)
-same_end end other is = let same : end ≡ other = cc (is) in ap (λ (e : End). Err e) same
+-- 1. A command that reads files, from what its loading does to a shelf.
 
 same_caused : (X Y : Type 0) (end : End) → EndsCaused {X = X} (Err end) → EndsCaused {X = Y} (Err end)
 same_caused X Y OutOfMemory is = tt
 same_caused X Y ReadFault is = tt
 same_caused X Y (Refused refusal) is = is
 
-same_takes : {X Y : Type 0} (end : End) (taken : ℕ) → Takes {X = X} (Err end) taken → Takes {X = Y} (Err end) taken
-same_takes end taken takes = record {
-  most = takes.most;
-  too_long = λ long. takes.too_long (long.0, same_end end (Refused (TooLong long.0)) long.1);
-  only_too_long = λ above. elim (takes.only_too_long above) [
-    | inl long ↦ inl (long.0, same_end end (Refused (TooLong long.0)) long.1)
-    | inr memory ↦ inr (same_end end OutOfMemory memory)
-  ];
-}
+module _ {S : Type 0} {held : S → Option Holding} {steady : S → Bool} {faults took : S → ℕ} {old new : S}
+    (command : Command) (reads : ReadsFiles command) where
+  answers : {result : Result Answer End} → LoadingLeaves held steady faults took old new result
+      → ((words : List (List ℕ)) → AreCommand words command
+      → IfOk result (λ answer. IsReportOfWords words (held old) (took new) answer.text.items answer.status))
+      → IfOk result (λ answer. IsAnswer answer.status)
+      → ((refusal : Refusal) → result ≡ Err (Refused refusal) → RefusesIt (held old) command refusal)
+      → EndsCaused result
+      → (IsErrOf result ReadFault → steady old ≡ true → IfKnown (held old) (λ held. IsMissing held command))
+      → IsAnswered held steady faults took command old new result
+  answers leaves answered status refused caused steadily = record {
+    answered = answered;
+    status = status;
+    refused = refused;
+    caused = caused;
+    read_fault = λ is. (leaves.read_fault is, reads);
+    steadily = steadily;
+    takes = λ also. leaves.takes;
+    untouched = λ none. absurd (none reads);
+    kept = leaves.kept;
+  }
 
--- no more than the limit is taken of what is loaded
-pub answer_small : {X : Type 0} (x : X) (taken : ℕ) → Takes {X = X} (Ok x) taken → taken ≤ most_bytes
-answer_small x taken takes = grind arith
+  -- where something was not loaded
+  ends : {X : Type 0} {end : End} → LoadingLeaves {X = X} held steady faults took old new (Err end)
+      → EndsCaused {X = X} (Err end) → ((refusal : Refusal)
+      → ◌≡◌ {A = Result X End} (Err end) (Err (Refused refusal)) → RefusesIt (held old) command refusal)
+      → (IsErrOf {T = X} (Err end) ReadFault → steady old ≡ true → IfKnown (held old) (λ held. IsMissing held command))
+      → IsAnswered held steady faults took command old new (Err end)
+  ends {X} {end} leaves caused refused steadily = answers (end_leaves end leaves) (λ words denoted. tt) tt
+      (λ refusal is. refused refusal (other_end end (Refused refusal) is)) (same_caused X Answer end caused)
+      (λ is. steadily (other_end end ReadFault is))
 
 -- 2. A question, and what is held.
 
@@ -140,11 +155,11 @@ module _ {command : Command} {asked : Asked} {paths : Paths} {reading : Reading}
     answered = λ holding words taken reads denoted short. tt;
     status = tt;
     refused = λ holding refusal reads is. asks.refuses holding refusal (reads.refuses paths refusal
-        (is_refused view (posed paths reading) end refusal (same_end end (Refused refusal) is) loads));
+        (is_refused view (posed paths reading) end refusal (other_end end (Refused refusal) is) loads));
     nothing = record {
-      read = λ is. nothing.read (same_end end ReadFault is);
+      read = λ is. nothing.read (other_end end ReadFault is);
       caused = same_caused Y Answer end nothing.caused;
-      short = λ long. nothing.short (long.0, same_end end (Refused (TooLong long.0)) long.1);
+      short = λ long. nothing.short (long.0, other_end end (Refused (TooLong long.0)) long.1);
     };
   }
 
@@ -178,18 +193,10 @@ module _ {S : Type 0} {held : S → Option Holding} {steady : S → Bool} {fault
       → (IsErrOf {T = X} (Err end) ReadFault → steady old ≡ true → LacksText (held old) asked)
       → LoadingLeaves {X = X} held steady faults took old new (Err end) → EndsCaused {X = X} (Err end)
       → IsAnswered held steady faults took command old new (Err end)
-  unloaded {X} {end} refused steadily leaves caused = record {
-    answered = λ words denoted. tt;
-    status = tt;
-    refused = λ refusal is. asks.refuses (held old) refusal
-        (reading_refuses (held old) asked paths refusal (refused refusal (same_end end (Refused refusal) is)));
-    caused = same_caused X Answer end caused;
-    read_fault = λ is. (leaves.read_fault (same_end end ReadFault is), asks.reads);
-    steadily = λ is calm. asks.lacks (held old) (steadily (same_end end ReadFault is) calm);
-    takes = λ reads. same_takes end (took new) leaves.takes;
-    untouched = λ none. absurd (none asks.reads);
-    kept = leaves.kept;
-  }
+  unloaded refused steadily leaves caused = ends command asks.reads leaves caused
+      (λ refusal is. asks.refuses (held old) refusal
+      (reading_refuses (held old) asked paths refusal (refused refusal is)))
+      (λ is calm. asks.lacks (held old) (steadily is calm))
 
   -- behind what was loaded nothing is asked of the shelf
   behind : {X : Type 0} {x : X} → LoadingLeaves held steady faults took old new (Ok x)
@@ -200,22 +207,8 @@ module _ {S : Type 0} {held : S → Option Holding} {steady : S → Bool} {fault
       → EndsCaused result → (IsErrOf result ReadFault → ⊥) → (IsTooLong result → ⊥)
       → IsAnswered held steady faults took command old new result
   behind {X} {x} leaves result answered status refused caused read short =
-      let small = answer_small x (took new) leaves.takes in
-      record {
-        answered = answered;
-        status = status;
-        refused = refused;
-        caused = caused;
-        read_fault = λ is. absurd (read is);
-        steadily = λ is. absurd (read is);
-        takes = λ reads. record {
-          most = omega (arith, small);
-          too_long = λ long. absurd (short long);
-          only_too_long = λ above. absurd (omega (arith, small, above));
-        };
-        untouched = λ none. absurd (none asks.reads);
-        kept = leaves.kept;
-      }
+      answers command asks.reads (answer_leaves result x read short leaves) answered status refused caused
+      (λ is. absurd (read is))
 
   -- so what is made of it is the answer
   pub answered_by : {X : Type 0} {x : X} {reading : Reading} {result : Result Answer End}
@@ -241,30 +234,10 @@ module _ {S : Type 0} {held : S → Option Holding} {steady : S → Bool} {fault
       behind leaves (Ok answer) (λ words denoted. report words denoted (answer_small x (took new) leaves.takes)) status
       (λ refusal is. absurd (cc (is))) tt (λ is. cc (is)) (λ long. cc (long.1))
 
--- 4. The certificate behind the question.
-
--- what two calls keep, one behind the other
-keeps-then : {held held' held'' : Option Holding} {steady steady' steady'' : Bool} {faults faults' faults'' : ℕ}
-    → KeepsShelf held held' steady steady' faults faults' → KeepsShelf held' held'' steady' steady'' faults' faults''
-    → KeepsShelf held held'' steady steady'' faults faults''
-keeps-then first second = record {
-  held = second.held ∙ first.held;
-  steady = second.steady ∙ first.steady;
-  later = omega (arith, first.later, second.later);
-}
+-- 4. A second file behind the question: a certificate, or values to begin with.
 
 module _ {S X : Type 0} {held : S → Option Holding} {steady : S → Bool} {faults took : S → ℕ} {old middle new : S}
     {x : X} (leaves : LoadingLeaves held steady faults took old middle (Ok x)) where
-  -- more is loaded
-  pub more_loaded : {Y : Type 0} {y : Y} → LoadingLeaves held steady faults took middle new (Ok y)
-      → LoadingLeaves held steady faults took old new (Ok y)
-  more_loaded rest = record {
-    read_fault = λ fails. absurd (cc (fails));
-    takes = rest.takes;
-    kept = keeps-then leaves.kept rest.kept;
-  }
-
-  -- where it was not loaded
   pub uncertified : {Y : Type 0} {end : End} (audit : Audit) (problem : Problem) (posing : Posing)
       → PosesIt (held old) audit.asked Unbounded problem → posing_in problem ≡ Some posing
       → ((refusal : Refusal) → ◌≡◌ {A = Result Y End} (Err end) (Err (Refused refusal))
@@ -273,29 +246,20 @@ module _ {S X : Type 0} {held : S → Option Holding} {steady : S → Bool} {fau
       → IfKnown (held middle) (λ held. held audit.certificate ≡ None))
       → LoadingLeaves {X = Y} held steady faults took middle new (Err end) → EndsCaused {X = Y} (Err end)
       → IsAnswered held steady faults took (OfAudit audit) old new (Err end)
-  uncertified {Y} {end} audit problem posing poses reached refused steadily rest caused = record {
-    answered = λ words denoted. tt;
-    status = tt;
-    refused = λ refusal is. inr (record {
-      problem = problem;
-      posed = poses;
-      posing = posing;
-      reached = reached;
-      certificate = subst (λ (h : Option Holding).
-          SourceWith h audit.certificate (λ source. RefusesCertificate posing.question source refusal)) leaves.kept.held
-          (refused refusal (same_end end (Refused refusal) is));
-    });
-    caused = same_caused Y Answer end caused;
-    read_fault = λ is. (omega (arith, leaves.kept.later, rest.read_fault (same_end end ReadFault is)), tt);
-    steadily = λ is calm. lacks_certificate (held old) audit problem poses
-        (subst (λ (h : Option Holding). IfKnown h (λ held. held audit.certificate ≡ None)) leaves.kept.held
-        (steadily (same_end end ReadFault is) (leaves.kept.steady ∙ calm)));
-    takes = λ reads. same_takes end (took new) rest.takes;
-    untouched = λ none. absurd (none tt);
-    kept = keeps-then leaves.kept rest.kept;
-  }
+  uncertified audit problem posing poses reached refused steadily rest caused =
+      ends (OfAudit audit) tt (both_leave leaves rest) caused (λ refusal is. inr (record {
+        problem = problem;
+        posed = poses;
+        posing = posing;
+        reached = reached;
+        certificate = subst (λ (h : Option Holding).
+            SourceWith h audit.certificate (λ source. RefusesCertificate posing.question source refusal))
+            leaves.kept.held (refused refusal is);
+      }))
+      (λ is calm. lacks_certificate (held old) audit problem poses
+      (subst (λ (h : Option Holding). IfKnown h (λ held. held audit.certificate ≡ None)) leaves.kept.held
+      (steadily is (leaves.kept.steady ∙ calm))))
 
-  -- where values to begin with were not loaded
   pub unhinted : {Y : Type 0} {end : End} (solve : Solve) (problem : Problem)
       → PosesIt (held old) solve.asked (solve_paths solve) problem → ((refusal : Refusal)
       → ◌≡◌ {A = Result Y End} (Err end) (Err (Refused refusal))
@@ -303,21 +267,13 @@ module _ {S X : Type 0} {held : S → Option Holding} {steady : S → Bool} {fau
       → (IsErrOf {T = Y} (Err end) ReadFault → steady middle ≡ true → LacksValues (held middle) solve.values)
       → LoadingLeaves {X = Y} held steady faults took middle new (Err end) → EndsCaused {X = Y} (Err end)
       → IsAnswered held steady faults took (OfSolve solve) old new (Err end)
-  unhinted {Y} {end} solve problem poses refused steadily rest caused = record {
-    answered = λ words denoted. tt;
-    status = tt;
-    refused = λ refusal is. inr (record {
-      problem = problem;
-      posed = poses;
-      values = subst (λ (h : Option Holding). RefusesValues h solve.values (states_of problem) refusal)
-          leaves.kept.held (refused refusal (same_end end (Refused refusal) is));
-    });
-    caused = same_caused Y Answer end caused;
-    read_fault = λ is. (omega (arith, leaves.kept.later, rest.read_fault (same_end end ReadFault is)), tt);
-    steadily = λ is calm. lacks_hints (held old) solve problem poses
-        (subst (λ (h : Option Holding). LacksValues h solve.values) leaves.kept.held
-        (steadily (same_end end ReadFault is) (leaves.kept.steady ∙ calm)));
-    takes = λ reads. same_takes end (took new) rest.takes;
-    untouched = λ none. absurd (none tt);
-    kept = keeps-then leaves.kept rest.kept;
-  }
+  unhinted solve problem poses refused steadily rest caused =
+      ends (OfSolve solve) tt (both_leave leaves rest) caused (λ refusal is. inr (record {
+        problem = problem;
+        posed = poses;
+        values = subst (λ (h : Option Holding). RefusesValues h solve.values (states_of problem) refusal)
+            leaves.kept.held (refused refusal is);
+      }))
+      (λ is calm. lacks_hints (held old) solve problem poses
+      (subst (λ (h : Option Holding). LacksValues h solve.values) leaves.kept.held
+      (steadily is (leaves.kept.steady ∙ calm))))

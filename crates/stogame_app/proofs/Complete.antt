@@ -10,10 +10,9 @@ use Rattle.certificate_audit.specs.declared.fault.AuditFault.{AuditFault}
 use Rattle.certificate_audit.specs.Accepted.{IsAccepted}
 use Rattle.certificate_audit.specs.Refused.{IsRefused}
 use Rattle.command_words.specs.Words.{Asked, Command, OfCheck, OfAudit, OfSolve, OfMake, OfSure, AreCommand}
-use Rattle.run_refusals.specs.declared.refusal.Text.TheVariants.{Tra, Lab, Own, Cert, Values}
+use Rattle.run_refusals.specs.declared.refusal.Text.TheVariants.{Cert, Values}
 use Rattle.run_refusals.specs.declared.refusal.Refusal.{Refusal}
-use Rattle.run_refusals.specs.declared.refusal.Refusal.TheVariants.{OfTra, OfLab, OfOwn, OfFormula, OfQuestion}
-use Rattle.run_refusals.specs.declared.refusal.Refusal.TheVariants.{WrongKind, OfCertificate, OfValues, TooLong}
+use Rattle.run_refusals.specs.declared.refusal.Refusal.TheVariants.{OfCertificate, OfValues, TooLong}
 use Rattle.asked_files.specs.declared.problem.Paths.{Paths}
 use Rattle.asked_files.specs.declared.problem.Paths.TheVariants.{Unbounded, Reaching}
 use Rattle.formula_sets.specs.Posing.{Posing}
@@ -25,7 +24,7 @@ use Rattle.asked_files.specs.Asks.{GivenTextWith, Asks}
 use Rattle.asked_files.specs.Questions.{PosesIt, RefusesQuestion, RefusesCertificate, GivesValues, RefusesValues}
 use Rattle.asked_files.specs.Questions.{RefusesValuesText, LacksValues}
 use Rattle.run_answers.specs.declared.status.Status.{Status}
-use Rattle.run_answers.specs.declared.status.Status.TheVariants.{Fine, SomeFalse, SomeUndecided, Usage, ModelRefused}
+use Rattle.run_answers.specs.declared.status.Status.TheVariants.{Usage, ModelRefused}
 use Rattle.run_answers.specs.declared.status.Status.TheVariants.{ReadFault, WriteFault, OutOfMemory, CertificateRefused}
 use Rattle.run_answers.specs.Status.{IsAnswer}
 use Rattle.stogame_app.specs.Commands.{IsAcceptedOf, IsAcceptedFrom, IsMissing, ReadsFiles, RefusesBehind, RefusesHints}
@@ -91,17 +90,7 @@ accepted_not_refused apart q source plan (TooLong Cert) accepted refused =
     let short : length accepted.text ≤ most_bytes = accepted.short in
     let long : most_bytes < length accepted.text = subst (λ (t : List ℕ). most_bytes < length t) same refused.2 in
     omega (arith, short, long)
-accepted_not_refused apart q source plan (TooLong Tra) accepted refused = refused
-accepted_not_refused apart q source plan (TooLong Lab) accepted refused = refused
-accepted_not_refused apart q source plan (TooLong Own) accepted refused = refused
-accepted_not_refused apart q source plan (TooLong Values) accepted refused = refused
-accepted_not_refused apart q source plan (OfTra fault) accepted refused = refused
-accepted_not_refused apart q source plan (OfLab fault) accepted refused = refused
-accepted_not_refused apart q source plan (OfOwn fault) accepted refused = refused
-accepted_not_refused apart q source plan (OfFormula fault) accepted refused = refused
-accepted_not_refused apart q source plan (OfQuestion fault) accepted refused = refused
-accepted_not_refused apart q source plan WrongKind accepted refused = refused
-accepted_not_refused apart q source plan (OfValues fault) accepted refused = refused
+accepted_not_refused apart q source plan refusal accepted refused = refused
 
 -- no text of values both has a fault and has none
 values_not_refused : (states : ℕ) (source : Option (List ℕ)) (refusal : Refusal)
@@ -117,17 +106,7 @@ values_not_refused states source (TooLong Values) given refused =
     let short : length given.text ≤ most_bytes = given.short in
     let long : most_bytes < length given.text = subst (λ (t : List ℕ). most_bytes < length t) same refused.2 in
     omega (arith, short, long)
-values_not_refused states source (TooLong Cert) given refused = refused
-values_not_refused states source (TooLong Tra) given refused = refused
-values_not_refused states source (TooLong Lab) given refused = refused
-values_not_refused states source (TooLong Own) given refused = refused
-values_not_refused states source (OfTra fault) given refused = refused
-values_not_refused states source (OfLab fault) given refused = refused
-values_not_refused states source (OfOwn fault) given refused = refused
-values_not_refused states source (OfFormula fault) given refused = refused
-values_not_refused states source (OfQuestion fault) given refused = refused
-values_not_refused states source WrongKind given refused = refused
-values_not_refused states source (OfCertificate fault) given refused = refused
+values_not_refused states source refusal given refused = refused
 
 -- so of a file that is named
 given_not_refused : (held : Holding) (name : Option (List ℕ)) (states : ℕ) (refusal : Refusal)
@@ -187,18 +166,9 @@ question_not_refused are apart holding held (OfAudit audit) refusal told accepte
 command_not_refused : AreAsked → AreApart → (holding : Option Holding) (command : Command) (refusal : Refusal)
     → IsAcceptedFrom holding command → RefusesIt holding command refusal → ⊥
 command_not_refused are apart holding (OfMake make) refusal accepted refused = absurd refused
-command_not_refused are apart holding (OfCheck check) refusal accepted refused =
+command_not_refused are apart holding command refusal accepted refused =
     let a = accepted tt in
-    question_not_refused are apart holding a.0 (OfCheck check) refusal a.1 a.2 refused
-command_not_refused are apart holding (OfSure asked) refusal accepted refused =
-    let a = accepted tt in
-    question_not_refused are apart holding a.0 (OfSure asked) refusal a.1 a.2 refused
-command_not_refused are apart holding (OfSolve solve) refusal accepted refused =
-    let a = accepted tt in
-    question_not_refused are apart holding a.0 (OfSolve solve) refusal a.1 a.2 refused
-command_not_refused are apart holding (OfAudit audit) refusal accepted refused =
-    let a = accepted tt in
-    question_not_refused are apart holding a.0 (OfAudit audit) refusal a.1 a.2 refused
+    question_not_refused are apart holding a.0 command refusal a.1 a.2 refused
 
 command_is_held : AreAsked → (holding : Option Holding) (held : Holding) (command : Command) → holding ≡ Some held
     → IsAcceptedOf held command → IfKnown holding (λ h. IsMissing h command) → ⊥
@@ -256,9 +226,6 @@ module _ (are : AreAsked) (apart : AreApart) (one : AreOneCommand) {words : List
   pub completed : (taken : ℕ) (old new : Option (List ℕ)) (status : Status)
       → IsEnding words holding taken old new status → (ReadsFiles accepted.command → status ≡ ReadFault → ⊥)
       → (status ≡ WriteFault → ⊥) → IsAnswer status ⊎ (status ≡ OutOfMemory)
-  completed taken old new Fine ends read write = inl tt
-  completed taken old new SomeFalse ends read write = inl tt
-  completed taken old new SomeUndecided ends read write = inl tt
   completed taken old new Usage ends read write = absurd (ends.is.no_command accepted.command accepted.denoted)
   completed taken old new ModelRefused ends read write = absurd (not_refused ends.is.refusal ends.is.refused)
   completed taken old new CertificateRefused ends read write = absurd (not_refused ends.is.refusal ends.is.refused)
@@ -266,6 +233,7 @@ module _ (are : AreAsked) (apart : AreApart) (one : AreOneCommand) {words : List
       absurd (read (subst ReadsFiles (sym (is_accepted ends.0.command ends.0.denoted)) ends.0.reads) refl)
   completed taken old new WriteFault ends read write = absurd (write refl)
   completed taken old new OutOfMemory ends read write = inr refl
+  completed taken old new status ends read write = inl tt
 
   -- a text that is held and accepted is read, unless the shelf fails
   pub is_read : {S : Type 0} {of : S → Option Holding} {steady : S → Bool} {faults took : S → ℕ} {old new : S}

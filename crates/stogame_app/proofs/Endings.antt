@@ -3,8 +3,8 @@ use Rattle.std.proofs.Common.{◌≡◌, ◌<◌, ◌≤◌, ◌⊎◌, inl, inr
 use Rattle.std.proofs.Common.{sym, arith}
 use Rattle.text_lines.specs.Limits.{most_bytes}
 use Rattle.game_outside.specs.Outside.{Holding, GrowsBy, GrowsByPrefix}
-use Rattle.command_words.specs.Words.{Command, OfCheck, OfAudit, OfSolve, OfMake, OfSure, AreCommand}
-use Rattle.run_refusals.specs.declared.refusal.Text.TheVariants.{Tra, Lab, Own, Cert, Values}
+use Rattle.command_words.specs.Words.{Command, OfMake, AreCommand}
+use Rattle.run_refusals.specs.declared.refusal.Text.TheVariants.{Cert}
 use Rattle.run_refusals.specs.declared.refusal.Refusal.{Refusal}
 use Rattle.run_refusals.specs.declared.refusal.Refusal.TheVariants.{OfCertificate, TooLong}
 use Rattle.run_refusals.specs.InFull.{RefusalInFull}
@@ -14,8 +14,8 @@ use Rattle.asked_files.specs.declared.load.End.TheVariants as end
 use Rattle.asked_files.specs.Loading.{Takes}
 use Rattle.run_answers.specs.declared.answer.Answer.{Answer}
 use Rattle.run_answers.specs.declared.status.Status.{Status}
-use Rattle.run_answers.specs.declared.status.Status.TheVariants.{Fine, SomeFalse, SomeUndecided, Usage, ModelRefused}
-use Rattle.run_answers.specs.declared.status.Status.TheVariants.{ReadFault, WriteFault, OutOfMemory, CertificateRefused}
+use Rattle.run_answers.specs.declared.status.Status.TheVariants.{Fine, SomeFalse, SomeUndecided}
+use Rattle.run_answers.specs.declared.status.Status.TheVariants.{ReadFault, WriteFault}
 use Rattle.stogame_app.specs.Status.{IsRefusal, refused_status}
 use Rattle.run_answers.specs.Status.{IsAnswer}
 use Rattle.stogame_app.specs.Commands.{ReadsFiles, RefusesIt}
@@ -41,18 +41,12 @@ refused_long refusal taken takes above = elim (takes.only_too_long above) [
 -- a command that is refused reads files
 refused_reads : (holding : Option Holding) (command : Command) (refusal : Refusal) → RefusesIt holding command refusal
     → ReadsFiles command
-refused_reads holding (OfCheck check) refusal refused = tt
-refused_reads holding (OfAudit audit) refusal refused = tt
-refused_reads holding (OfSolve solve) refusal refused = tt
-refused_reads holding (OfSure asked) refusal refused = tt
 refused_reads holding (OfMake make) refusal refused = absurd refused
+refused_reads holding command refusal refused = tt
 
 reads_or_not : (command : Command) → ReadsFiles command ⊎ (ReadsFiles command → ⊥)
-reads_or_not (OfCheck check) = inl tt
-reads_or_not (OfAudit audit) = inl tt
-reads_or_not (OfSolve solve) = inl tt
-reads_or_not (OfSure asked) = inl tt
 reads_or_not (OfMake make) = inr (λ reads. reads)
+reads_or_not command = inl tt
 
 module _ {S : Type 0} {held : S → Option Holding} {steady : S → Bool} {faults took : S → ℕ} {old new : S}
     (words : List (List ℕ)) (command : Command) (denoted : AreCommand words command) where
@@ -98,12 +92,7 @@ module _ {words : List (List ℕ)} {holding : Option Holding} {taken : ℕ} (old
   report_ends text Fine answer report grows = record { text = text; is = report; grows = grows }
   report_ends text SomeFalse answer report grows = record { text = text; is = report; grows = grows }
   report_ends text SomeUndecided answer report grows = record { text = text; is = report; grows = grows }
-  report_ends text Usage answer report grows = absurd answer
-  report_ends text ModelRefused answer report grows = absurd answer
-  report_ends text ReadFault answer report grows = absurd answer
-  report_ends text WriteFault answer report grows = absurd answer
-  report_ends text OutOfMemory answer report grows = absurd answer
-  report_ends text CertificateRefused answer report grows = absurd answer
+  report_ends text status answer report grows = absurd answer
 
   pub refusal_ends : (refusal : Refusal) → RefusesWords words holding taken refusal → RefusalInFull refusal
       → GrowsBy old new (refusal_text refusal) → IsEnding words holding taken old new (refused_status refusal)
@@ -123,10 +112,6 @@ module _ {words : List (List ℕ)} {holding : Option Holding} {taken : ℕ} (old
       refused_is : (r : Refusal) → IsRefusal (refused_status r)
       refused_is (OfCertificate fault) = inr refl
       refused_is (TooLong Cert) = inr refl
-      refused_is (TooLong Tra) = inl refl
-      refused_is (TooLong Lab) = inl refl
-      refused_is (TooLong Own) = inl refl
-      refused_is (TooLong Values) = inl refl
       refused_is r = inl refl
 
   -- a text that was written to its end, or by a front
@@ -148,12 +133,7 @@ pub reports_told : (words : List (List ℕ)) (holding : Option Holding) (taken :
 reports_told words holding taken old new Fine ends answer = ends
 reports_told words holding taken old new SomeFalse ends answer = ends
 reports_told words holding taken old new SomeUndecided ends answer = ends
-reports_told words holding taken old new Usage ends answer = absurd answer
-reports_told words holding taken old new ModelRefused ends answer = absurd answer
-reports_told words holding taken old new ReadFault ends answer = absurd answer
-reports_told words holding taken old new WriteFault ends answer = absurd answer
-reports_told words holding taken old new OutOfMemory ends answer = absurd answer
-reports_told words holding taken old new CertificateRefused ends answer = absurd answer
+reports_told words holding taken old new status ends answer = absurd answer
 
 pub refusals_told : (words : List (List ℕ)) (holding : Option Holding) (taken : ℕ) (old new : Option (List ℕ))
     (status : Status) → IsEnding words holding taken old new status → IsRefusal status

@@ -18,7 +18,7 @@ use Rattle.rpatl_syntax.specs.Spellable.{IsSpellable}
 use Rattle.rpatl_syntax.specs.Spelling.{spelling}
 use Rattle.formula_sets.specs.Posing.{Posing, init}
 use Rattle.command_words.specs.Words.{Asked, Check, Audit, Command, OfCheck, OfAudit, OfSolve, OfMake, OfSure}
-use Rattle.command_words.specs.Words.{AreCommand}
+use Rattle.command_words.specs.Words.{AreCommand, DenoteCommand}
 use Rattle.run_answers.specs.declared.status.Status.{Status}
 use Rattle.formula_truth.specs.declared.way.Way.TheVariants.{ByRounds}
 use Rattle.asked_files.specs.Asks.{Asks}
@@ -84,13 +84,25 @@ initial-few paths sources asked problem asks =
       game-few asks.tra.text asks.game asks.tra.is_so,
     )
 
+-- a report is that of a command that the words denote
+abbrev pub reported_by : {words : List (List ℕ)} {holding : Option Holding} {taken : ℕ} {text : List ℕ}
+    {status : Status} → IsReportOfWords words holding taken text status → DenoteCommand words
+reported_by (of_reach check p f asks report) = (OfCheck check, asks.denoted)
+reported_by (of_within check steps p f asks report) = (OfCheck check, asks.denoted)
+reported_by (of_next check p f asks report) = (OfCheck check, asks.denoted)
+reported_by (of_nested check model initial f asks report) = (OfCheck check, asks.denoted)
+reported_by (of_audit audit problem p f asks reached audited) = (OfAudit audit, asks.denoted)
+reported_by (of_solve solve p f asks given solved) = (OfSolve solve, asks.denoted)
+reported_by (of_solve_within solve steps p f asks report) = (OfSolve solve, asks.denoted)
+reported_by (of_solve_next solve p f asks report) = (OfSolve solve, asks.denoted)
+reported_by (of_solve_nested solve model initial f asks report) = (OfSolve solve, asks.denoted)
+reported_by (of_sure asked problem p f all asks reached sure ends) = (OfSure asked, asks.denoted)
+reported_by (of_make make denoted made) = (OfMake make, denoted)
+
 -- words that denote a `check` denote no other command
 abbrev IsCheck : Command → Type 0
 IsCheck (OfCheck check) = Unit {0}
-IsCheck (OfAudit audit) = ⊥
-IsCheck (OfSolve solve) = ⊥
-IsCheck (OfMake make) = ⊥
-IsCheck (OfSure asked) = ⊥
+IsCheck command = ⊥
 
 same_check : AreOneCommand → (words : List (List ℕ)) (check : Check) (command : Command)
     → AreCommand words (OfCheck check) → AreCommand words command → IsCheck command
@@ -132,24 +144,9 @@ printed-short one spellable words holding taken check text status denoted
     (of_nested other model initial f asks report) =
     let few = check-few spellable other (OfNested model initial) f asks in
     nested-text-short model initial f (ByRounds other.rounds) text status few.states report
-printed-short one spellable words holding taken check text status denoted
-    (of_audit audit problem p f asks reached audited) =
-    absurd (same_check one words check (OfAudit audit) denoted asks.denoted)
-printed-short one spellable words holding taken check text status denoted (of_solve solve p f asks given solved) =
-    absurd (same_check one words check (OfSolve solve) denoted asks.denoted)
-printed-short one spellable words holding taken check text status denoted
-    (of_solve_within solve steps p f asks report) =
-    absurd (same_check one words check (OfSolve solve) denoted asks.denoted)
-printed-short one spellable words holding taken check text status denoted (of_solve_next solve p f asks report) =
-    absurd (same_check one words check (OfSolve solve) denoted asks.denoted)
-printed-short one spellable words holding taken check text status denoted
-    (of_solve_nested solve model initial f asks report) =
-    absurd (same_check one words check (OfSolve solve) denoted asks.denoted)
-printed-short one spellable words holding taken check text status denoted
-    (of_sure asked problem p f all asks reached sure ends) =
-    absurd (same_check one words check (OfSure asked) denoted asks.denoted)
-printed-short one spellable words holding taken check text status denoted (of_make make other made) =
-    absurd (same_check one words check (OfMake make) denoted other)
+printed-short one spellable words holding taken check text status denoted report =
+    let by = reported_by report in
+    absurd (same_check one words check by.0 denoted by.1)
 
 -- 3. What was written is accepted.
 
@@ -232,20 +229,9 @@ module _ (read_back : AreReadBack) (certificates : AreCertificates) (one : AreOn
       absurd (no-certificate other (OfNext p) f refl (of_other check other denoted asks.denoted saved) asks)
   by_report check denoted saved (of_nested other model initial f asks report) = absurd
       (no-certificate other (OfNested model initial) f refl (of_other check other denoted asks.denoted saved) asks)
-  by_report check denoted saved (of_audit other problem p f asks reached audited) =
-      absurd (same_check one words check (OfAudit other) denoted asks.denoted)
-  by_report check denoted saved (of_solve solve p f asks given solved) =
-      absurd (same_check one words check (OfSolve solve) denoted asks.denoted)
-  by_report check denoted saved (of_solve_within solve steps p f asks report) =
-      absurd (same_check one words check (OfSolve solve) denoted asks.denoted)
-  by_report check denoted saved (of_solve_next solve p f asks report) =
-      absurd (same_check one words check (OfSolve solve) denoted asks.denoted)
-  by_report check denoted saved (of_solve_nested solve model initial f asks report) =
-      absurd (same_check one words check (OfSolve solve) denoted asks.denoted)
-  by_report check denoted saved (of_sure asked problem p f all asks reached sure ends) =
-      absurd (same_check one words check (OfSure asked) denoted asks.denoted)
-  by_report check denoted saved (of_make make other made) =
-      absurd (same_check one words check (OfMake make) denoted other)
+  by_report check denoted saved report =
+      let by = reported_by report in
+      absurd (same_check one words check by.0 denoted by.1)
 
 pub saved-accepted : AreReadBack → AreCertificates → AreOneCommand → AreSpellable → (words : List (List ℕ))
     (held later : Holding) (taken : ℕ) (check : Check) (audit : Audit) (text : List ℕ) (status : Status)

@@ -5,7 +5,7 @@ use Rattle.text_lines.specs.Limits.{most_bytes}
 use Rattle.game_outside.specs.Outside.{Holding}
 use Rattle.formula_reader.specs.Formula.{Tree}
 use Rattle.formula_sets.specs.Posing.{Posing}
-use Rattle.command_words.specs.Words.{Asked, Solve, Audit, Command, OfCheck, OfAudit, OfSolve, OfMake, OfSure}
+use Rattle.command_words.specs.Words.{Asked, Solve, Audit, Command, OfAudit, OfSolve}
 use Rattle.command_words.specs.Words.{AreCommand}
 use Rattle.run_answers.specs.declared.status.Status.{Status}
 use Rattle.asked_files.specs.Asks.{Asks}
@@ -15,8 +15,8 @@ use Rattle.asked_files.specs.Problems.{Problem, OfReach, OfWithin, OfNext, OfNes
 use Rattle.asked_files.specs.Sources.{Sources, sources_of}
 use Rattle.formula_truth.specs.declared.way.Way.TheVariants.{BySolver}
 use Rattle.stogame_app.specs.Commands.{IsAcceptedOf, solve_paths}
-use Rattle.stogame_app.specs.Reports.{Solves, IsReportOfWords, of_reach, of_within, of_next, of_nested, of_audit}
-use Rattle.stogame_app.specs.Reports.{of_solve, of_solve_within, of_solve_next, of_solve_nested, of_sure, of_make}
+use Rattle.stogame_app.specs.Reports.{Solves, IsReportOfWords}
+use Rattle.stogame_app.specs.Reports.{of_solve, of_solve_within, of_solve_next, of_solve_nested}
 use Rattle.stogame_app.proofs.Complete.{AreOneCommand}
 use Rattle.run_answers.proofs.Passing.{AreReadBack}
 use Rattle.run_answers.proofs.PlainParts.{spellable-plain, answered-plain}
@@ -24,15 +24,12 @@ use Rattle.run_answers.proofs.ShortSpellings.{spelling-short}
 use Rattle.question_reports.specs.Solved.{IsSolved}
 use Rattle.question_reports.proofs.ShortReports.{nested-text-short, solved-text-short, sweep-text-short}
 use Rattle.question_reports.proofs.Accepting.{AreCertificates, solved-accepted}
-use Rattle.stogame_app.proofs.Saving.{AreFew, AreSpellable, asked-posing, initial-few}
+use Rattle.stogame_app.proofs.Saving.{AreFew, AreSpellable, asked-posing, initial-few, reported_by}
 
 -- words that denote a `solve` denote no other command
 abbrev OneSolve : Solve → Command → Type 0
 OneSolve solve (OfSolve other) = other ≡ solve
-OneSolve solve (OfCheck check) = ⊥
-OneSolve solve (OfAudit audit) = ⊥
-OneSolve solve (OfMake make) = ⊥
-OneSolve solve (OfSure asked) = ⊥
+OneSolve solve command = ⊥
 
 same_solve : AreOneCommand → (words : List (List ℕ)) (solve : Solve) (command : Command)
     → AreCommand words (OfSolve solve) → AreCommand words command → OneSolve solve command
@@ -60,18 +57,9 @@ module _ (one : AreOneCommand) (spellable : AreSpellable) (words : List (List �
   solve-short (of_solve_nested other model initial f asks report) =
       nested-text-short model initial f BySolver text status (solve-few other (OfNested model initial) f asks).states
       report
-  solve-short (of_reach other p f asks report) =
-      absurd (same_solve one words solve (OfCheck other) denoted asks.denoted)
-  solve-short (of_within other steps p f asks report) =
-      absurd (same_solve one words solve (OfCheck other) denoted asks.denoted)
-  solve-short (of_next other p f asks report) = absurd (same_solve one words solve (OfCheck other) denoted asks.denoted)
-  solve-short (of_nested other model initial f asks report) =
-      absurd (same_solve one words solve (OfCheck other) denoted asks.denoted)
-  solve-short (of_audit other problem p f asks reached audited) =
-      absurd (same_solve one words solve (OfAudit other) denoted asks.denoted)
-  solve-short (of_sure asked problem p f all asks reached sure ends) =
-      absurd (same_solve one words solve (OfSure asked) denoted asks.denoted)
-  solve-short (of_make make other made) = absurd (same_solve one words solve (OfMake make) denoted other)
+  solve-short report =
+      let by = reported_by report in
+      absurd (same_solve one words solve by.0 denoted by.1)
 
 module _ (read_back : AreReadBack) (certificates : AreCertificates) (one : AreOneCommand) (spellable : AreSpellable)
     (words : List (List ℕ)) (held later : Holding) (taken : ℕ) (solve : Solve) (audit : Audit)
@@ -126,16 +114,6 @@ module _ (read_back : AreReadBack) (certificates : AreCertificates) (one : AreOn
   solve-accepted (of_solve_next other p f asks report) = absurd (no-plan other (OfNext p) f asks refl)
   solve-accepted (of_solve_nested other model initial f asks report) =
       absurd (no-plan other (OfNested model initial) f asks refl)
-  solve-accepted (of_reach other p f asks report) =
-      absurd (same_solve one words solve (OfCheck other) denoted asks.denoted)
-  solve-accepted (of_within other steps p f asks report) =
-      absurd (same_solve one words solve (OfCheck other) denoted asks.denoted)
-  solve-accepted (of_next other p f asks report) =
-      absurd (same_solve one words solve (OfCheck other) denoted asks.denoted)
-  solve-accepted (of_nested other model initial f asks report) =
-      absurd (same_solve one words solve (OfCheck other) denoted asks.denoted)
-  solve-accepted (of_audit other problem p f asks reached audited) =
-      absurd (same_solve one words solve (OfAudit other) denoted asks.denoted)
-  solve-accepted (of_sure asked problem p f all asks reached sure ends) =
-      absurd (same_solve one words solve (OfSure asked) denoted asks.denoted)
-  solve-accepted (of_make make other made) = absurd (same_solve one words solve (OfMake make) denoted other)
+  solve-accepted report =
+      let by = reported_by report in
+      absurd (same_solve one words solve by.0 denoted by.1)

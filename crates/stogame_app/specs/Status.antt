@@ -1,9 +1,8 @@
 -- These are the statuses of a report of `sure` and of a refusal.
 use Rattle.std.specs.Prelude.{◌≡◌, ◌⊎◌, Bool, if◌then◌else◌}
 use Rattle.run_refusals.specs.declared.refusal.Refusal.{Refusal}
-use Rattle.run_refusals.specs.declared.refusal.Refusal.TheVariants.{OfTra, OfLab, OfOwn, OfFormula, OfQuestion}
-use Rattle.run_refusals.specs.declared.refusal.Refusal.TheVariants.{WrongKind, OfCertificate, OfValues, TooLong}
-use Rattle.run_refusals.specs.declared.refusal.Text.TheVariants.{Tra, Lab, Own, Cert, Values}
+use Rattle.run_refusals.specs.declared.refusal.Refusal.TheVariants.{OfCertificate, TooLong}
+use Rattle.run_refusals.specs.declared.refusal.Text.TheVariants.{Cert}
 use Rattle.run_answers.specs.declared.status.Status.{Status}
 use Rattle.run_answers.specs.declared.status.Status.TheVariants.{Fine, SomeFalse, ModelRefused, CertificateRefused}
 
@@ -13,19 +12,9 @@ sure_status all = if all then Fine else SomeFalse
 
 -- This is the status of a refusal. A refused certificate has a status of its own.
 abbrev pub refused_status : Refusal → Status
-refused_status (OfTra fault) = ModelRefused
-refused_status (OfLab fault) = ModelRefused
-refused_status (OfOwn fault) = ModelRefused
-refused_status (OfFormula fault) = ModelRefused
-refused_status (OfQuestion fault) = ModelRefused
-refused_status WrongKind = ModelRefused
 refused_status (OfCertificate fault) = CertificateRefused
-refused_status (OfValues fault) = ModelRefused
-refused_status (TooLong Tra) = ModelRefused
-refused_status (TooLong Lab) = ModelRefused
-refused_status (TooLong Own) = ModelRefused
 refused_status (TooLong Cert) = CertificateRefused
-refused_status (TooLong Values) = ModelRefused
+refused_status refusal = ModelRefused
 
 -- With this status the line of a refusal was written.
 abbrev pub IsRefusal : Status → Type 0

@@ -10,7 +10,7 @@ use Rattle.transition_lines.specs.declared.line.Transition.{Transition}
 use Rattle.transition_lines.specs.declared.fault.TraFault.{TraFault}
 use Rattle.transition_lines.specs.declared.fault.TraCause.TheVariants.{ChoiceGap}
 use Rattle.tra_reader.specs.declared.progress.Progress.{Progress}
-use Rattle.tra_reader.specs.declared.progress.Progress.TheVariants.{Builds, Faulty, Crowded, Gap, OutOfMemory}
+use Rattle.tra_reader.specs.declared.progress.Progress.TheVariants.{Builds}
 use Rattle.tra_reader.specs.declared.whole_choices.WholeChoices.{WholeChoices}
 use Rattle.transition_lines.specs.Faults.{fault_of_all}
 use Rattle.distributions.specs.declared.choice.Part.{Part}
@@ -141,7 +141,4 @@ ready n ts k draft some few are = record {
 pub all_ready : (n : ℕ) (ts : List Transition) (k count : ℕ) (progress : Progress) → 0 < n → n ≤ most_states
     → IsMade n ts n k count progress → IfBuilds progress IsReady
 all_ready n ts k count (Builds draft) some few made = ready n ts k draft some few made.1
-all_ready n ts k count (Faulty fault) some few made = tt
-all_ready n ts k count (Crowded i) some few made = tt
-all_ready n ts k count (Gap i j) some few made = tt
-all_ready n ts k count OutOfMemory some few made = tt
+all_ready n ts k count progress some few made = tt

@@ -173,10 +173,7 @@ pub record IsReady (draft : Draft) : Type 0 where
 -- run out.
 abbrev pub IfBuilds : Progress → (Draft → Type 0) → Type 0
 IfBuilds (Builds draft) P = P draft
-IfBuilds (Faulty fault) P = Unit {0}
-IfBuilds (Crowded i) P = Unit {0}
-IfBuilds (Gap i j) P = Unit {0}
-IfBuilds OutOfMemory P = Unit {0}
+IfBuilds progress P = Unit {0}
 
 -- The choices are as many as stated, or this is the fault.
 abbrev pub IsAsStated : Option ℕ → ℕ → Option TraFault → Type 0

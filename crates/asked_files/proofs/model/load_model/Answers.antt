@@ -2,31 +2,26 @@ use Rattle.std.proofs.Common.{None, Some, ◌∙◌}
 use Rattle.std.proofs.lemmas.Result.{err_from_is_err_and}
 use Rattle.formula_reader.specs.Formula.{tree_of}
 use Rattle.command_words.specs.Words.{asked_of_words}
-use Rattle.asked_files.specs.Texts.{labels_said, owners_said}
 use Rattle.asked_files.proofs.Leaving.{answer_leaves, both_leave, end_leaves, other_end}
-use Rattle.asked_files.proofs.Loading.{text_kept, text_missed, text_read, text_refused}
+use Rattle.asked_files.proofs.Loading.{text_missed, text_read, text_refused}
 use Rattle.asked_files.proofs.ModelTexts.{game_ends, labels_end, owners_end, formula_ends, formula_refused, all_read}
-use Rattle.asked_files.proofs.ModelTexts.{lacks, reads}
+use Rattle.asked_files.proofs.ModelTexts.{labels_kept, lacks, owners_kept, reads}
 use Rattle.asked_files.proofs.model.load_model.Goals as goal
 
 pub returns-in_err-game-clause-refused : goal.returns-in_err-game-clause-refused
 returns-in_err-game-clause-refused g c =
-    let holding = g.H.Shelf.held c.args.shelf.now in
     let asked = asked_of_words c.args.asked.now in
     let p = err_from_is_err_and c.from_residual.result c.from_residual.ensures.1 in
     rw (p.1, p.2)
-    (λ refusal is. game_ends holding asked (Some refusal) (text_refused c.in_err-game.ensures.says (cc (is))))
+    (λ refusal is. game_ends asked (Some refusal) (text_refused c.in_err-game.ensures.says (cc (is))))
 
 pub returns-in_err-labels-clause-refused : goal.returns-in_err-labels-clause-refused
 returns-in_err-labels-clause-refused g c =
-    let holding = g.H.Shelf.held c.args.shelf.now in
     let asked = asked_of_words c.args.asked.now in
     let p = err_from_is_err_and c.from_residual-in_err-labels.result c.from_residual-in_err-labels.ensures.1 in
-    let game = c.in_ok-game.game in
-    let tra = text_read c.in_ok-game.ensures.says in
-    rw (p.1, p.2)
-    (λ refusal is. labels_end holding asked game tra (Some refusal) (text_kept (λ n source. labels_said source n)
-    c.in_ok-game.ensures.shelf.kept.held c.states.ensures (text_refused c.in_err-labels.ensures.says (cc (is)))))
+    rw (p.1, p.2) (λ refusal is. labels_end asked (text_read c.in_ok-game.ensures.says) (Some refusal)
+    (labels_kept asked c.in_ok-game.ensures.shelf.kept.held c.states.ensures
+    (text_refused c.in_err-labels.ensures.says (cc (is)))))
 
 pub returns-in_err-labels-clause-shelf : goal.returns-in_err-labels-clause-shelf
 returns-in_err-labels-clause-shelf g c =
@@ -35,32 +30,25 @@ returns-in_err-labels-clause-shelf g c =
 
 pub returns-in_err-owners-clause-refused : goal.returns-in_err-owners-clause-refused
 returns-in_err-owners-clause-refused g c =
-    let holding = g.H.Shelf.held c.args.shelf.now in
     let asked = asked_of_words c.args.asked.now in
     let p = err_from_is_err_and c.from_residual-in_err-owners.result c.from_residual-in_err-owners.ensures.1 in
-    let game = c.in_ok-game.game in
     let tra = text_read c.in_ok-game.ensures.says in
-    let labels = c.in_ok-labels.labels in
-    let lab = text_kept (λ n source. labels_said source n) c.in_ok-game.ensures.shelf.kept.held c.states.ensures
-    (text_read c.in_ok-labels.ensures.says) in
-    rw (p.1, p.2) (λ refusal is. owners_end holding asked game tra labels lab (Some refusal)
-    (text_kept (λ n source. owners_said asked.own source n) (c.in_ok-labels.ensures.shelf.kept.held
-    ∙ c.in_ok-game.ensures.shelf.kept.held) c.states-2.ensures (text_refused c.in_err-owners.ensures.says (cc (is)))))
+    let first = c.in_ok-game.ensures.shelf.kept.held in
+    let lab = labels_kept asked first c.states.ensures (text_read c.in_ok-labels.ensures.says) in
+    rw (p.1, p.2) (λ refusal is. owners_end asked tra lab (Some refusal)
+    (owners_kept asked (c.in_ok-labels.ensures.shelf.kept.held ∙ first) c.states-2.ensures
+    (text_refused c.in_err-owners.ensures.says (cc (is)))))
 
 pub returns-in_err-owners-clause-steadily : goal.returns-in_err-owners-clause-steadily
 returns-in_err-owners-clause-steadily g c =
-    let holding = g.H.Shelf.held c.args.shelf.now in
     let asked = asked_of_words c.args.asked.now in
     let p = err_from_is_err_and c.from_residual-in_err-owners.result c.from_residual-in_err-owners.ensures.1 in
-    let game = c.in_ok-game.game in
     let tra = text_read c.in_ok-game.ensures.says in
-    let labels = c.in_ok-labels.labels in
-    let lab = text_kept (λ n source. labels_said source n) c.in_ok-game.ensures.shelf.kept.held c.states.ensures
-    (text_read c.in_ok-labels.ensures.says) in
+    let first = c.in_ok-game.ensures.shelf.kept.held in
+    let lab = labels_kept asked first c.states.ensures (text_read c.in_ok-labels.ensures.says) in
     let steady = c.in_ok-labels.ensures.shelf.kept.steady ∙ c.in_ok-game.ensures.shelf.kept.steady in
-    rw (p.1, p.2) (λ is calm. lacks holding asked
-    (owners_end holding asked game tra labels lab None (text_kept (λ n source. owners_said asked.own source n)
-    (c.in_ok-labels.ensures.shelf.kept.held ∙ c.in_ok-game.ensures.shelf.kept.held) c.states-2.ensures
+    rw (p.1, p.2) (λ is calm. lacks (g.H.Shelf.held c.args.shelf.now) asked (owners_end asked tra lab None
+    (owners_kept asked (c.in_ok-labels.ensures.shelf.kept.held ∙ first) c.states-2.ensures
     (text_missed c.in_err-owners.ensures.says (cc (is)) (steady ∙ calm)))))
 
 pub returns-in_err-owners-clause-shelf : goal.returns-in_err-owners-clause-shelf
@@ -71,18 +59,14 @@ returns-in_err-owners-clause-shelf g c =
 
 pub returns-in_err-formula-clause-refused : goal.returns-in_err-formula-clause-refused
 returns-in_err-formula-clause-refused g c =
-    let holding = g.H.Shelf.held c.args.shelf.now in
     let asked = asked_of_words c.args.asked.now in
     let p = err_from_is_err_and c.from_residual-in_err-formula.result c.from_residual-in_err-formula.ensures.1 in
-    let game = c.in_ok-game.game in
     let tra = text_read c.in_ok-game.ensures.says in
-    let labels = c.in_ok-labels.labels in
-    let lab = text_kept (λ n source. labels_said source n) c.in_ok-game.ensures.shelf.kept.held c.states.ensures
-    (text_read c.in_ok-labels.ensures.says) in
-    let owners = c.in_ok-owners.owners in
-    let own = text_kept (λ n source. owners_said asked.own source n) (c.in_ok-labels.ensures.shelf.kept.held
-    ∙ c.in_ok-game.ensures.shelf.kept.held) c.states-2.ensures (text_read c.in_ok-owners.ensures.says) in
-    rw (p.1, p.2) (λ refusal is. formula_ends holding asked game tra labels lab owners own (Some refusal)
+    let first = c.in_ok-game.ensures.shelf.kept.held in
+    let lab = labels_kept asked first c.states.ensures (text_read c.in_ok-labels.ensures.says) in
+    let own = owners_kept asked (c.in_ok-labels.ensures.shelf.kept.held ∙ first) c.states-2.ensures
+    (text_read c.in_ok-owners.ensures.says) in
+    rw (p.1, p.2) (λ refusal is. formula_ends asked tra lab own (Some refusal)
     (formula_refused asked.formula c.in_err-formula.ensures.says (cc (is))))
 
 pub returns-in_err-formula-clause-shelf : goal.returns-in_err-formula-clause-shelf
@@ -94,19 +78,15 @@ returns-in_err-formula-clause-shelf g c =
 
 pub returns-clause-reads : goal.returns-clause-reads
 returns-clause-reads g c =
-    let holding = g.H.Shelf.held c.args.shelf.now in
     let asked = asked_of_words c.args.asked.now in
-    let game = c.in_ok-game.game in
     let tra = text_read c.in_ok-game.ensures.says in
-    let labels = c.in_ok-labels.labels in
-    let lab = text_kept (λ n source. labels_said source n) c.in_ok-game.ensures.shelf.kept.held c.states.ensures
-    (text_read c.in_ok-labels.ensures.says) in
-    let owners = c.in_ok-owners.owners in
-    let own = text_kept (λ n source. owners_said asked.own source n) (c.in_ok-labels.ensures.shelf.kept.held
-    ∙ c.in_ok-game.ensures.shelf.kept.held) c.states-2.ensures (text_read c.in_ok-owners.ensures.says) in
-    let read = all_read holding asked game tra labels lab owners own
-    (tree_of c.in_ok-formula.formula) c.in_ok-formula.ensures.says in
-    reads holding asked _ read c.in_ok-formula.ensures.spelled
+    let first = c.in_ok-game.ensures.shelf.kept.held in
+    let lab = labels_kept asked first c.states.ensures (text_read c.in_ok-labels.ensures.says) in
+    let own = owners_kept asked (c.in_ok-labels.ensures.shelf.kept.held ∙ first) c.states-2.ensures
+    (text_read c.in_ok-owners.ensures.says) in
+    reads (g.H.Shelf.held c.args.shelf.now) asked _
+    (all_read asked tra lab own (tree_of c.in_ok-formula.formula) c.in_ok-formula.ensures.says)
+    c.in_ok-formula.ensures.spelled
 
 pub returns-clause-shelf : goal.returns-clause-shelf
 returns-clause-shelf g c =

@@ -10,7 +10,8 @@ use Rattle.formula_sets.specs.Seen.{posing_of}
 use Rattle.asked_files.specs.SeenProblems.{problem_of}
 use Rattle.asked_files.specs.Sources.{SourceWith}
 use Rattle.stogame_app.specs.Reports.{of_audit}
-use Rattle.stogame_app.proofs.Answered.{answered_by, audit_asks, more_loaded, reached-inside, reported, uncertified}
+use Rattle.asked_files.proofs.Leaving.{both_leave}
+use Rattle.stogame_app.proofs.Answered.{answered_by, audit_asks, reached-inside, reported, uncertified}
 use Rattle.stogame_app.proofs.Answered.{unposed, wanting}
 use Rattle.question_reports.proofs.AuditedTexts.{accepted_audited}
 use Rattle.stogame_app.proofs.audit.audit_loaded.Goals as goal
@@ -48,7 +49,7 @@ returns g c before reads leaves =
     let plan = c.in_ok-plan.plan in
     let Q : Option Holding → Type 0 =
     λ h. SourceWith h name (λ source. GivenTextWith source (λ bytes. IsAccepted question bytes plan)) in
-    reported (audit_asks (audit_of c.args.audit.now)) (more_loaded leaves c.in_ok-plan.ensures.shelf) answer
+    reported (audit_asks (audit_of c.args.audit.now)) (both_leave leaves c.in_ok-plan.ensures.shelf) answer
     (λ words denoted short. of_audit (audit_of c.args.audit.now) problem posing formula
     (record {
       denoted = denoted;
@@ -63,4 +64,4 @@ returns g c before reads leaves =
 pub returns-in_err-answer : goal.returns-in_err-answer
 returns-in_err-answer g c before reads leaves =
     let p = err_from_is_err_and c.from_residual-in_err-answer.result c.from_residual-in_err-answer.ensures.1 in
-    rw (p.1, p.2) (wanting (audit_asks (audit_of c.args.audit.now)) (more_loaded leaves c.in_ok-plan.ensures.shelf))
+    rw (p.1, p.2) (wanting (audit_asks (audit_of c.args.audit.now)) (both_leave leaves c.in_ok-plan.ensures.shelf))

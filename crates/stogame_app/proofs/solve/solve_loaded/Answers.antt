@@ -6,7 +6,8 @@ use Rattle.asked_files.specs.Problems.{states_of}
 use Rattle.asked_files.specs.Questions.{GivesValues}
 use Rattle.asked_files.specs.SeenProblems.{problem_of}
 use Rattle.stogame_app.specs.Commands.{solve_paths}
-use Rattle.stogame_app.proofs.Answered.{answered_by, more_loaded, reported, solve_asks, unhinted, unposed, wanting}
+use Rattle.asked_files.proofs.Leaving.{both_leave}
+use Rattle.stogame_app.proofs.Answered.{answered_by, reported, solve_asks, unhinted, unposed, wanting}
 use Rattle.stogame_app.proofs.Posed.{reportable}
 use Rattle.stogame_app.proofs.solve.solve_loaded.Goals as goal
 
@@ -45,7 +46,7 @@ returns g c before reads leaves =
     let answer = c.in_ok-answer.answer in
     let solve = solve_of c.args.solve.now in
     let problem = problem_of c.in_ok-problem.problem in
-    reported (solve_asks solve) (more_loaded leaves c.in_ok-read.ensures.shelf) answer
+    reported (solve_asks solve) (both_leave leaves c.in_ok-read.ensures.shelf) answer
     (λ words denoted short. c.in_ok-answer.ensures.report words _ _
     (record {
       denoted = denoted;
@@ -60,4 +61,4 @@ returns g c before reads leaves =
 pub returns-in_err-answer : goal.returns-in_err-answer
 returns-in_err-answer g c before reads leaves =
     let p = err_from_is_err_and c.from_residual-in_err-answer.result c.from_residual-in_err-answer.ensures.1 in
-    rw (p.1, p.2) (wanting (solve_asks (solve_of c.args.solve.now)) (more_loaded leaves c.in_ok-read.ensures.shelf))
+    rw (p.1, p.2) (wanting (solve_asks (solve_of c.args.solve.now)) (both_leave leaves c.in_ok-read.ensures.shelf))
