@@ -58,12 +58,17 @@ class Refused(Exception):
     """The line and the cause by which the program refuses a file of rewards."""
 
 
+def rows_of(text):
+    """The fields of the lines of a text, without blank lines at its end; a text has one line at least."""
+    rows = [FIELD.findall(line) for line in lines_of(text)]
+    while rows[1:] and not rows[-1]:
+        rows.pop()
+    return rows
+
+
 def read_rewards(text, counts):
     """The rewards of a text, for states that have so many choices."""
-    lines = lines_of(text)
-    while lines and not lines[-1].strip(b" \t"):
-        lines.pop()
-    rows = [FIELD.findall(line) for line in lines] or [[]]
+    rows = rows_of(text)
     stated, rewards, seen = read_header(rows[0], len(counts)), no_rewards(counts), set()
     for number, row in enumerate(rows[1:], 2):
         refuse(number - 1 > stated, number, f"LineCount read {number - 1} stated {stated}")
