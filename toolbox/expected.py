@@ -23,8 +23,8 @@ def turns_paid(rewards):
 # Which states are finite
 
 Split = namedtuple("Split", "finite ranks replies away choices")
-Split.__doc__ = """The finite states, and their ranks, by which the replies of the minimiser lead to a goal; and ranks of
-the other states, by which the choices of the maximiser keep away from the goals."""
+Split.__doc__ = """The finite states, and their ranks, by which the replies of the minimiser lead to a goal; and ranks
+of the other states, by which the choices of the maximiser keep away from the goals."""
 
 
 def split(problem):
