@@ -2,18 +2,22 @@
 
 A family that pays has `rewards`: for its sizes, by the name of a structure, what is paid on the move from one state to
 the next, by the names of both. `gallery/write` writes a file for each structure. The program is not asked for these
-values yet: `gallery/test_rewards.py` compares them with exact ones.
+values yet: `gallery/test_rewards.py` compares those of small models with exact ones, and
 
-The values of `csma` are the benchmark set's `time_min` and `time_max`, computed here; they were not compared with
-printed ones.
+    python3 -m gallery.rewards
+
+all, of the largest models by value iteration in floating point (a minute). The values of `csma` are the benchmark set's
+`time_min` and `time_max`, computed here; they were not compared with printed ones.
 """
 
 import importlib
+import sys
 from collections import namedtuple
 from fractions import Fraction
 
 from gallery.families import agrees
 from toolbox.exact import Problem
+from toolbox.expected import expected_values, plain_expected, turns_paid
 from toolbox.model import CLOSED, COMPUTED, ask
 from toolbox.rewards import Rewards, reward_text, spelt
 
@@ -29,19 +33,19 @@ EXPECTED = (
     Expected("die", (11,), "tosses", "Rmax=?", "done", "160/33", CLOSED),
     Expected("coin", (2, 2), "steps", "Rmax=?", "finished", "75", CONSENSUS),
     Expected("coin", (2, 2), "steps", "Rmin=?", "finished", "48", CONSENSUS),
-    Expected("coin", (2, 4), "steps", "Rmax=?", "finished", "243", CONSENSUS),
-    Expected("coin", (2, 4), "steps", "Rmin=?", "finished", "192", CONSENSUS),
-    Expected("ring", (3,), "steps", "Rmax=?", "stable", "3", "Israeli and Jalfon 1990"),
-    Expected("ring", (7,), "steps", "Rmax=?", "stable", "21", "Israeli and Jalfon 1990"),
-    Expected("ring", (7,), "steps", "Rmin=?", "stable", "21", "Israeli and Jalfon 1990"),
-    Expected("ring", (9,), "steps", "Rmin=?", "stable", "36", "Israeli and Jalfon 1990"),
+    Expected("coin", (2, 4), "steps", "Rmax=?", "finished", "243", COMPUTED),
+    Expected("coin", (2, 4), "steps", "Rmin=?", "finished", "192", COMPUTED),
+    Expected("ring", (3,), "steps", "Rmax=?", "stable", "3", CLOSED),
+    Expected("ring", (7,), "steps", "Rmax=?", "stable", "21", CLOSED),
+    Expected("ring", (7,), "steps", "Rmin=?", "stable", "21", CLOSED),
+    Expected("ring", (9,), "steps", "Rmin=?", "stable", "36", CLOSED),
     Expected("herman", (3,), "steps", "Rmax=?", "stable", "4/3", "McIver and Morgan 2005"),
     Expected("herman", (5,), "steps", "Rmax=?", "stable", "16/5", "McIver and Morgan 2005", WORST),
     Expected("herman", (7,), "steps", "Rmax=?", "stable", "48/7", "McIver and Morgan 2005", WORST),
     Expected("herman", (5,), "steps", "Rmin=?", "stable", "44/15", COMPUTED),
-    Expected("leader", (3, 2), "rounds", "Rmax=?", "elected", "4/3", "Itai and Rodeh 1990"),
-    Expected("leader", (3, 4), "rounds", "Rmax=?", "elected", "16/15", "Itai and Rodeh 1990"),
-    Expected("leader", (4, 2), "rounds", "Rmin=?", "elected", "2", "Itai and Rodeh 1990"),
+    Expected("leader", (3, 2), "rounds", "Rmax=?", "elected", "4/3", CLOSED),
+    Expected("leader", (3, 4), "rounds", "Rmax=?", "elected", "16/15", CLOSED),
+    Expected("leader", (4, 2), "rounds", "Rmin=?", "elected", "2", CLOSED),
     Expected("zeroconf", (4, 1000), "cost", "Rmax=?", "settled", "23.657318", "Bohnenkamp and others 2003"),
     Expected("firewire_abst", (3, 0), "time", "Rmax=?", "elected", "299", CLOSED),
     Expected("firewire_abst", (3, 0), "time", "Rmin=?", "elected", "541/4", CLOSED),
@@ -50,6 +54,19 @@ EXPECTED = (
     Expected("csma", (2, 2), "time", "Rmin=?", "all_heard", "66.99932", COMPUTED),
     Expected("csma", (2, 2), "time", "Rmax=?", "all_heard", "70.66576", COMPUTED),
 )
+
+LARGE = (
+    Expected("coin", (2, 16), "steps", "Rmax=?", "finished", "3267", COMPUTED),
+    Expected("coin", (2, 16), "steps", "Rmin=?", "finished", "3072", COMPUTED),
+    Expected("csma", (2, 4), "time", "Rmin=?", "all_heard", "75.65078", COMPUTED),
+    Expected("csma", (2, 4), "time", "Rmax=?", "all_heard", "78.97127", COMPUTED),
+)
+# too large for fractions
+DENSE = (
+    Expected("herman", (9,), "steps", "Rmax=?", "stable", "12.0000", "McIver and Morgan 2005", WORST),
+    Expected("herman", (11,), "steps", "Rmax=?", "stable", "17.4545", "McIver and Morgan 2005", WORST),
+)
+DIFFERENCE = 1e-11
 
 
 def paying(row):
@@ -90,3 +107,22 @@ def texts(model, family, sizes):
     """The text for each structure of a model, by its name."""
     found = family.rewards(*sizes) if hasattr(family, "rewards") else {}
     return {structure: text_of(rewards_of(model, pays)) for structure, pays in found.items()}
+
+
+def main():
+    """Prints each row with the value that was found, and says whether all are right."""
+    faults = 0
+    for row in EXPECTED + LARGE + DENSE:
+        problem, rewards = paying(row)
+        paid = turns_paid(rewards)
+        values = plain_expected(problem, paid, DIFFERENCE) if row in DENSE else expected_values(problem, paid)
+        found, right = values[0] if row.state == FIRST else max(values), is_right(row, values)
+        faults += not right
+        name, wrong = "-".join(map(str, (row.family, *row.sizes))), "" if right else "  WRONG"
+        cells = f"{name:20} {row.structure:7} {row.bound} {row.value:10} {float(found):14.8f}"
+        print(f"{cells}  {row.source}{wrong}", flush=True)
+    return 1 if faults else 0
+
+
+if __name__ == "__main__":
+    sys.exit(main())
