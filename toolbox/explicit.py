@@ -67,19 +67,28 @@ def field_blocks(name):
 
     Blank lines are passed over at the end of the file; any other is refused.
     """
-    number, blank = 1, None
     with open_bytes(name) as file:
-        while lines := file.readlines(BLOCK_BYTES):
-            rows = [line.split() for line in lines]
-            if blank is not None or [] in rows:
-                rows, blank = without_blanks(name, number, rows, blank)
-            yield number, rows
-            number += len(lines)
+        yield from blocks_of(name, file)
+
+
+def blocks_of(name, file):
+    number, blank = 1, None
+    while lines := file.readlines(BLOCK_BYTES):
+        rows = [line.split() for line in lines]
+        if blank is not None or [] in rows:
+            rows, blank = without_blanks(name, number, rows, blank)
+        yield number, rows
+        number += len(lines)
 
 
 def field_rows(name):
     """The fields of each line, with its number."""
-    for number, rows in field_blocks(name):
+    with open_bytes(name) as file:
+        yield from rows_of(name, file)
+
+
+def rows_of(name, file):
+    for number, rows in blocks_of(name, file):
         yield from enumerate(rows, number)
 
 
@@ -142,15 +151,8 @@ def header_line(names):
 
 
 def fraction_of(spelling):
-    """The exact value of a decimal or a fraction as numerator and denominator in lowest terms;
-    ValueError says the fault."""
-    found = FRACTION.match(spelling)
-    if found:
-        numerator, denominator = checked_digits(found[1]), checked_digits(found[2])
-        if denominator == 0:
-            raise ValueError("a denominator of 0")
-    else:
-        numerator, denominator = decimal_of(spelling)
+    """The exact value of a probability as numerator and denominator in lowest terms; ValueError says the fault."""
+    numerator, denominator = number_of(spelling)
     common = gcd(numerator, denominator)
     if denominator // common > MOST_DENOMINATOR:
         raise ValueError("finer than 10^-23")
@@ -159,10 +161,21 @@ def fraction_of(spelling):
     return numerator // common, denominator // common
 
 
-def decimal_of(spelling):
+def number_of(spelling, kind="probability"):
+    """The numerator and the denominator of a decimal or a fraction; ValueError says why it is none."""
+    found = FRACTION.match(spelling)
+    if not found:
+        return decimal_of(spelling, kind)
+    numerator, denominator = checked_digits(found[1]), checked_digits(found[2])
+    if denominator == 0:
+        raise ValueError("a denominator of 0")
+    return numerator, denominator
+
+
+def decimal_of(spelling, kind):
     found = DECIMAL.match(spelling)
     if not found:
-        raise ValueError("no probability")
+        raise ValueError(f"no {kind}")
     places = found[2] or b""
     exponent = int(found[3] or 0) - len(places)
     numerator = checked_digits(found[1] + places)

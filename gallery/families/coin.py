@@ -98,5 +98,9 @@ def questions(processes, bound):
     yield sure("Pmin=?", "finished", value=1, source=SOURCE)
 
 
+def rewards(*_):
+    return {"steps": lambda state, after: not has_finished(state)}
+
+
 def known_as(processes, bound):
     return Known(f"`consensus` {processes}-{bound}: `c2`, `disagree`", *COUNTS[processes, bound])

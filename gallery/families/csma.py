@@ -127,5 +127,9 @@ def questions(stations, most):
     yield sure("Pmin=?", "all_heard", value=1, source=CLOSED)
 
 
+def rewards(*_):
+    return {"time": lambda state, after: after == passed(*state)}
+
+
 def known_as(stations, most):
     return Known(f"`csma` {stations}-{most}: `all_before_min`, `all_before_max`", *COUNTS[stations, most])

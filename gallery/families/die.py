@@ -74,5 +74,9 @@ def questions(faces):
         yield ask("Pmax=?", twice_as_likely, path="X")
 
 
+def rewards(_):
+    return {"tosses": lambda state, after: state[0] == "node"}
+
+
 def known_as(faces):
     return Known("PRISM's `die`", 13, 20) if faces == 6 else Known()

@@ -87,6 +87,11 @@ def questions(delay, deadline):
     yield ask(f"P>={least}", "elected", least, BY_RULE)
 
 
+def rewards(*_):
+    """Time passes where what both drew stays and the wait is longer."""
+    return {"time": lambda state, after: (state[0], state[1] + 1) == after[:2]}
+
+
 def known_as(delay, deadline):
     if deadline == 0:
         return same_or_size("`firewire_abst`", (delay,), COUNTS, "`elected`")

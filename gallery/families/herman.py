@@ -53,5 +53,9 @@ def questions(processes):
     yield ask("P>=1", soon, 1, CLOSED, path="G")
 
 
+def rewards(_):
+    return {"steps": lambda bits, after: tokens(bits) > 1}
+
+
 def known_as(processes):
     return Known(f"`herman` {processes}", 2**processes, 3**processes + 1)

@@ -80,6 +80,10 @@ def questions(processes, numbers):
     yield ask("P>=3/4", "elected", within[1], CLOSED, steps=steps)
 
 
+def rewards(*_):
+    return {"rounds": lambda state, after: state[0] == "draw"}
+
+
 def known_as(processes, numbers):
     name = f"`leader_sync` {processes}-{numbers}: `elected`"
     counts = COUNTS.get((processes, numbers))

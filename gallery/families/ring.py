@@ -57,5 +57,9 @@ def questions(processes):
     yield ask("P>=0.999999", for_ever, 1, SOURCE)
 
 
+def rewards(_):
+    return {"steps": lambda tokens, after: sum(tokens) > 1}
+
+
 def known_as(processes):
     return Known(f"`israeli-jalfon` {processes}: `stable`", 2**processes - 1)

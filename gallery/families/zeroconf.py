@@ -26,6 +26,8 @@ from toolbox.model import CLOSED, Model, ask, sure
 
 ADDRESSES = 65024
 LOST = Fraction(1, 10)
+# two units of time and a postage of 3.5 for a probe, and what a collision costs
+PROBE, COLLISION = Fraction(11, 2), 10**6
 SOURCE = "Bohnenkamp and others 2003"
 SIZES = {"small": [(4, 1000), (2, 32512), (8, 60000)], "large": [(100000, 60000)]}
 KNOWN = Known("`zeroconf`", kind=OTHER)
@@ -71,3 +73,19 @@ def questions_of_danger(probes, used, value):
     yield ask("Pmax=?", danger, last_probe, CLOSED)
     yield ask("P>=0.99", ("!", danger), 1 - last_probe, CLOSED, path="G")
     yield ask("P>=0.999", safe, 1 - value, CLOSED)
+
+
+def rewards(probes, _):
+    """Each probe costs its time and its postage; a free address is asked for PROBES times, too."""
+
+    def cost_of(state, after):
+        probed = 0 if state in ("draw", "free", "collision") else PROBE
+        return {"free": probes * PROBE, "collision": probed + COLLISION}.get(after, probed) if state != after else 0
+
+    return {"cost": cost_of}
+
+
+def cost(probes, used):
+    """The expected cost, by the source's formula."""
+    asked = probes * (1 - used) + used * sum(LOST**sent for sent in range(probes))
+    return (PROBE * asked + used * LOST**probes * COLLISION) / (1 - used * (1 - LOST**probes))

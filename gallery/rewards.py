@@ -1,0 +1,128 @@
+"""What models of the gallery pay, and what is expected of it until a goal, as the literature has it.
+
+A family that pays has `rewards`: for its sizes, by the name of a structure, what is paid on the move from one state to
+the next, by the names of both. `gallery/write` writes a file for each structure. The program is not asked for these
+values yet: `gallery/test_rewards.py` compares those of small models with exact ones, and
+
+    python3 -m gallery.rewards
+
+all, of the largest models by value iteration in floating point (a minute). The values of `csma` are the benchmark set's
+`time_min` and `time_max`, computed here; they were not compared with printed ones.
+"""
+
+import importlib
+import sys
+from collections import namedtuple
+from fractions import Fraction
+
+from gallery.families import agrees
+from toolbox.exact import Problem
+from toolbox.expected import expected_values, plain_expected, turns_paid
+from toolbox.model import CLOSED, COMPUTED, ask
+from toolbox.rewards import Rewards, reward_text, spelt
+
+FIRST, WORST = "the first state", "the state of the greatest value"
+CONSENSUS = "PRISM's case study of randomised consensus"
+
+Expected = namedtuple("Expected", "family sizes structure bound goal value source state", defaults=(FIRST,))
+Expected.__doc__ = "A value, as a whole number, a fraction or in decimals, and of which state it is."
+
+EXPECTED = (
+    Expected("die", (6,), "tosses", "Rmax=?", "done", "11/3", "Knuth and Yao 1976"),
+    Expected("die", (8,), "tosses", "Rmin=?", "done", "3", CLOSED),
+    Expected("die", (11,), "tosses", "Rmax=?", "done", "160/33", CLOSED),
+    Expected("coin", (2, 2), "steps", "Rmax=?", "finished", "75", CONSENSUS),
+    Expected("coin", (2, 2), "steps", "Rmin=?", "finished", "48", CONSENSUS),
+    Expected("coin", (2, 4), "steps", "Rmax=?", "finished", "243", COMPUTED),
+    Expected("coin", (2, 4), "steps", "Rmin=?", "finished", "192", COMPUTED),
+    Expected("ring", (3,), "steps", "Rmax=?", "stable", "3", CLOSED),
+    Expected("ring", (7,), "steps", "Rmax=?", "stable", "21", CLOSED),
+    Expected("ring", (7,), "steps", "Rmin=?", "stable", "21", CLOSED),
+    Expected("ring", (9,), "steps", "Rmin=?", "stable", "36", CLOSED),
+    Expected("herman", (3,), "steps", "Rmax=?", "stable", "4/3", "McIver and Morgan 2005"),
+    Expected("herman", (5,), "steps", "Rmax=?", "stable", "16/5", "McIver and Morgan 2005", WORST),
+    Expected("herman", (7,), "steps", "Rmax=?", "stable", "48/7", "McIver and Morgan 2005", WORST),
+    Expected("herman", (5,), "steps", "Rmin=?", "stable", "44/15", COMPUTED),
+    Expected("leader", (3, 2), "rounds", "Rmax=?", "elected", "4/3", CLOSED),
+    Expected("leader", (3, 4), "rounds", "Rmax=?", "elected", "16/15", CLOSED),
+    Expected("leader", (4, 2), "rounds", "Rmin=?", "elected", "2", CLOSED),
+    Expected("zeroconf", (4, 1000), "cost", "Rmax=?", "settled", "23.657318", "Bohnenkamp and others 2003"),
+    Expected("firewire_abst", (3, 0), "time", "Rmax=?", "elected", "299", CLOSED),
+    Expected("firewire_abst", (3, 0), "time", "Rmin=?", "elected", "541/4", CLOSED),
+    Expected("firewire_abst", (36, 0), "time", "Rmax=?", "elected", "365", CLOSED),
+    Expected("firewire_abst", (36, 0), "time", "Rmin=?", "elected", "409/4", CLOSED),
+    Expected("csma", (2, 2), "time", "Rmin=?", "all_heard", "66.99932", COMPUTED),
+    Expected("csma", (2, 2), "time", "Rmax=?", "all_heard", "70.66576", COMPUTED),
+)
+
+LARGE = (
+    Expected("coin", (2, 16), "steps", "Rmax=?", "finished", "3267", COMPUTED),
+    Expected("coin", (2, 16), "steps", "Rmin=?", "finished", "3072", COMPUTED),
+    Expected("csma", (2, 4), "time", "Rmin=?", "all_heard", "75.65078", COMPUTED),
+    Expected("csma", (2, 4), "time", "Rmax=?", "all_heard", "78.97127", COMPUTED),
+)
+# too large for fractions
+DENSE = (
+    Expected("herman", (9,), "steps", "Rmax=?", "stable", "12.0000", "McIver and Morgan 2005", WORST),
+    Expected("herman", (11,), "steps", "Rmax=?", "stable", "17.4545", "McIver and Morgan 2005", WORST),
+)
+DIFFERENCE = 1e-11
+
+
+def paying(row):
+    """The problem and the rewards of a row of the table."""
+    family = importlib.import_module(f"gallery.families.{row.family}")
+    model = family.model(*row.sizes)
+    problem = Problem(model, ask(row.bound.replace("R", "P"), row.goal))
+    return problem, rewards_of(model, family.rewards(*row.sizes)[row.structure])
+
+
+def is_right(row, values):
+    """Whether these are the values of a model of which a row has one, to its last digit."""
+    found = values[0] if row.state == FIRST else max(values)
+    return agrees(found, row.value) if "." in row.value else found == Fraction(row.value)
+
+
+def rewards_of(model, pays):
+    """The rewards of a model: those of the moves of a choice averaged over it, and of a state where its choices all pay
+    the same."""
+    states, choices = [], []
+    for name, moves in zip(model.names, model.choices):
+        paid = [sum(part * Fraction(pays(name, model.names[after])) for after, part in one.items()) for one in moves]
+        is_even = len(set(paid)) == 1
+        states.append(Fraction(paid[0] if is_even else 0))
+        choices.append([Fraction(0)] * len(paid) if is_even else paid)
+    return Rewards(states, choices)
+
+
+def text_of(rewards):
+    """The file of these rewards."""
+    spellings = {(state,): spelt(reward) for state, reward in enumerate(rewards.states) if reward}
+    for state, paid in enumerate(rewards.choices):
+        spellings.update({(state, number): spelt(reward) for number, reward in enumerate(paid) if reward})
+    return reward_text(len(rewards.states), spellings)
+
+
+def texts(model, family, sizes):
+    """The text for each structure of a model, by its name."""
+    found = family.rewards(*sizes) if hasattr(family, "rewards") else {}
+    return {structure: text_of(rewards_of(model, pays)) for structure, pays in found.items()}
+
+
+def main():
+    """Prints each row with the value that was found, and says whether all are right."""
+    faults = 0
+    for row in EXPECTED + LARGE + DENSE:
+        problem, rewards = paying(row)
+        paid = turns_paid(rewards)
+        values = plain_expected(problem, paid, DIFFERENCE) if row in DENSE else expected_values(problem, paid)
+        found, right = values[0] if row.state == FIRST else max(values), is_right(row, values)
+        faults += not right
+        name, wrong = "-".join(map(str, (row.family, *row.sizes))), "" if right else "  WRONG"
+        cells = f"{name:20} {row.structure:7} {row.bound} {row.value:10} {float(found):14.8f}"
+        print(f"{cells}  {row.source}{wrong}", flush=True)
+    return 1 if faults else 0
+
+
+if __name__ == "__main__":
+    sys.exit(main())

@@ -1,0 +1,44 @@
+"""Tests of what the gallery's models pay: python3 -m unittest gallery/test_rewards.py"""
+
+import unittest
+from fractions import Fraction
+
+from gallery.families import die, zeroconf
+from gallery.rewards import EXPECTED, is_right, paying, rewards_of, text_of, texts
+from toolbox.expected import expected_values, turns_paid
+from toolbox.rewards import read_rewards
+
+
+class Known(unittest.TestCase):
+    def test_known_values(self):
+        for row in EXPECTED:
+            with self.subTest(row):
+                problem, rewards = paying(row)
+                self.assertTrue(is_right(row, expected_values(problem, turns_paid(rewards))))
+
+    def test_what_is_right(self):
+        row = EXPECTED[0]
+        self.assertTrue(is_right(row, [Fraction(11, 3)]))
+        self.assertFalse(is_right(row, [Fraction(11, 3) + Fraction(1, 10**9)]))
+        rounded = row._replace(value="3.667")
+        self.assertTrue(is_right(rounded, [Fraction(11, 3)]))
+        self.assertFalse(is_right(rounded, [Fraction(11, 3) + Fraction(1, 500)]))
+
+    def test_the_cost_of_an_address(self):
+        """The source's formula, of four probes and addresses of which 1000 in 65024 are used."""
+        model, pays = zeroconf.model(4, 1000), zeroconf.rewards(4, 1000)["cost"]
+        problem, _ = paying(next(row for row in EXPECTED if row.family == "zeroconf"))
+        cost = expected_values(problem, turns_paid(rewards_of(model, pays)))[0]
+        self.assertEqual(cost, zeroconf.cost(4, Fraction(1000, 65024)))
+
+
+class Texts(unittest.TestCase):
+    def test_a_die(self):
+        found = texts(die.model(6), die, (6,))
+        self.assertEqual(found["tosses"], "rewards 13 7\n" + "".join(f"{state} 1\n" for state in range(7)))
+
+    def test_texts_are_read(self):
+        for row in EXPECTED:
+            problem, rewards = paying(row)
+            text = text_of(rewards).encode("ascii")
+            self.assertEqual(read_rewards(text, list(map(len, problem.choices))), rewards)
