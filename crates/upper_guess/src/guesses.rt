@@ -33,8 +33,8 @@ impl Guesses<'_> {
     ghost use Rattle.upper_guess.specs.inside.OfGuesses.{first_entry_of, IsTableOf, AreRefusedOf, IsFirstOf, steps_of};
 
     /// Returns the first of the tables of this excess that is accepted, or none if each is refused. A table that is
-    /// seen to be refused at the witness of its steps is not made. If a table is made and refused, the state that rises
-    /// most from it becomes the witness.
+    /// seen to be refused at the witness of its steps, or at a state of a sample, is not made. That state becomes the
+    /// witness. If a table is made and refused, it is the state that rises most from it.
     pub fn first_accepted<M: UpTables>(
         &self,
         maker: &M,
@@ -50,7 +50,8 @@ impl Guesses<'_> {
         let mut made = None;
         for steps in 0..MOST_STEPS + 1 {
             let witness = witnesses.states[steps as usize];
-            if self.refuses_at(steps, witness, Self::steps_made(&made)) {
+            if let Some(state) = self.refusal(steps, witness, Self::steps_made(&made)) {
+                witnesses.states[steps as usize] = state;
                 continue;
             }
             let table = self.table_after(maker, alloc, steps, made)?;

@@ -5,9 +5,9 @@
 //! first whose own up step is nowhere above it. Such a table is inductive, so no k-step value is above it. The last
 //! excess is above the unit, and its first table is always accepted: some table is found for every lower table.
 //!
-//! A table is made only if it is not seen to be refused at one state: the one that rose most from the last table of as
-//! many up steps that was made. Its entry and the up value there are found by recursion over the choices. No clause
-//! says how near the guess comes to the values, or how long it takes.
+//! A table is made only if it is not seen to be refused at one state: the one at which the last table of as many up
+//! steps was refused, or else one of a small sample. Its entry and the up value there are found by recursion over the
+//! choices. No clause says how near the guess comes to the values, or how long it takes.
 //!
 //! [`guess`] works with one worker. [`guess_with`] takes a maker of the up steps of whole tables ([`UpTables`]), so
 //! that several workers can make them; it gives the same guess.

@@ -15,11 +15,53 @@ use game_model::UNIT;
 /// into no more than twice as many as the up steps of the table would, because a table would also have to be allocated.
 const LEAST_BUDGET: u32 = 1_000;
 
+/// A sample looks into one state in this many.
+const SAMPLED: u32 = 32;
+
+/// Multiples of this number, 2^32 over the golden ratio, spread a sample over the states (Knuth, section 6.4).
+const SPREAD: u32 = 2_654_435_769;
+
 impl Guesses<'_> {
+    /// Returns a state at which a table is seen to be refused, when a table after `made` up steps is at hand: the given
+    /// one, or else one that a sample meets.
+    pub fn refusal(&self, steps: u32, state: u32, made: u32) -> Option<u32>
+        requires steps { steps ≤ most_steps }
+        requires state { state < states self.now.question.now }
+        ensures inside { IfSome result (λ s. s < states self.now.question.now) }
+        ensures refused { IfSome result (λ s. IsRefusedOf self.now steps) }
+    {
+        if self.refuses_at(steps, state, made) {
+            return Some(state);
+        }
+        self.sampled_refusal(steps)
+    }
+
+    /// Returns a state of a sample at which a table is seen to be refused. The sample looks into few states, so that it
+    /// costs a small part of an up step.
+    fn sampled_refusal(&self, steps: u32) -> Option<u32>
+        requires steps { steps ≤ most_steps }
+        ensures inside { IfSome result (λ s. s < states self.now.question.now) }
+        ensures refused { IfSome result (λ s. IsRefusedOf self.now steps) }
+    {
+        self.question.known();
+        let states = self.question.game().states();
+        let mut budget = states / SAMPLED;
+        for turn in 0..states / SAMPLED {
+            let state = turn.wrapping_mul(SPREAD) % states;
+            if self.rises_at(steps, state, &mut budget) {
+                return Some(state);
+            }
+            if budget == 0 {
+                return None;
+            }
+        }
+        None
+    }
+
     /// Returns whether a table is seen to be refused at this state, when a table after `made` up steps is at hand. It
     /// is not seen if the recursion would look into more states than the question has and, if these are few, into more
     /// than twice as many as the up steps from that table on: then the table costs no more.
-    pub fn refuses_at(&self, steps: u32, state: u32, made: u32) -> bool
+    fn refuses_at(&self, steps: u32, state: u32, made: u32) -> bool
         requires steps { steps ≤ most_steps }
         requires state { state < states self.now.question.now }
         ensures { IsTrue result → IsRefusedOf self.now steps }
@@ -28,10 +70,19 @@ impl Guesses<'_> {
         let up_steps = steps.saturating_sub(made).saturating_add(1);
         let few = states.saturating_mul(up_steps).saturating_mul(2);
         let mut budget = states.max(LEAST_BUDGET.min(few));
-        let Some(entry) = self.entry(steps, state, &mut budget) else {
+        self.rises_at(steps, state, &mut budget)
+    }
+
+    /// Returns whether a state is seen to rise from a table to the next, if the budget suffices.
+    fn rises_at(&self, steps: u32, state: u32, budget: &mut u32) -> bool
+        requires steps { steps ≤ most_steps }
+        requires state { state < states self.now.question.now }
+        ensures { IsTrue result → IsRefusedOf self.now steps }
+    {
+        let Some(entry) = self.entry(steps, state, budget) else {
             return false;
         };
-        let Some(raised) = self.entry(steps + 1, state, &mut budget) else {
+        let Some(raised) = self.entry(steps + 1, state, budget) else {
             return false;
         };
         entry < raised

@@ -2,8 +2,8 @@
 
 use crate::guesses::MOST_STEPS;
 
-/// For each number of up steps there is a state to look at first: the one that rose most from the last table of that
-/// many up steps that was made and refused. The states change how long a guess takes, and not which it is.
+/// For each number of up steps there is a state to look at first, at which the last table of that many up steps was
+/// refused. The states change how long a guess takes, and not which it is.
 #[derive(Drop)]
 pub struct Witnesses {
     /// These are the states, by up steps.

@@ -1,4 +1,4 @@
-use Rattle.std.proofs.Common.{ℕ, ◌+◌, ◌<◌, ◌≤◌, arith, le_refl, sym, subst, ◌∙◌}
+use Rattle.std.proofs.Common.{ℕ, ◌+◌, ◌<◌, ◌≤◌, arith, le_refl, ◌∙◌}
 use borrow.Author.Count.{below_more}
 use Rattle.std.specs.Prelude.{slice_index, slice_set, List, IfSome, Option, Some, None}
 use Rattle.std.specs.Global.{Vec}
@@ -28,24 +28,26 @@ witnesses-set q witnesses i s h inside = record {
   inside = All-set (λ s. s < states q) witnesses i s inside h.inside;
 }
 
-pub loop-steps-preserved-then-refuses_at : goal.loop-steps-preserved-then-refuses_at
-loop-steps-preserved-then-refuses_at t c =
+pub loop-steps-preserved-in-Some : goal.loop-steps-preserved-in-Some
+loop-steps-preserved-in-Some t c =
     let g = c.args.self.now in
     let h = c.loop-steps.invariant in record {
       made = made-later g c.loop-steps.steps c.loop-steps.made h.made;
-      witnesses = h.witnesses;
-      refused = below_more (IsRefusedOf g) c.loop-steps.steps h.refused (c.refuses_at.ensures c.if-refuses_at.true);
+      witnesses = witnesses-set g.question.now c.loop-steps.witnesses.states c.loop-steps.steps c.in-Some.state
+          h.witnesses c.in-Some.ensures.inside;
+      refused = below_more (IsRefusedOf g) c.loop-steps.steps h.refused c.in-Some.ensures.refused;
     }
 
-pub returns-in_default-clause-found : goal.returns-in_default-clause-found
-returns-in_default-clause-found t c =
+pub returns-in_default-most_raised-clause-found : goal.returns-in_default-most_raised-clause-found
+returns-in_default-most_raised-clause-found t c =
     let g = c.args.self.now in
     let q = g.question.now in
     let table = c.in_ok-table.table.items in
     let next = c.in_ok-next.next.items in
     let step : IsTable q (up_step q (slice_index table)) next = rw c.deref.ensures.value at c.in_ok-next.ensures in
     let below : IsBelow q (slice_index next) (slice_index table) =
-    rw (c.deref-in-loop-steps.ensures.value, c.deref-in-loop-steps-2.ensures.value) at c.in_default.ensures in
+    rw (c.deref-in-loop-steps.ensures.value, c.deref-in-loop-steps-2.ensures.value) at
+    c.in_default-most_raised.ensures in
     record {
       steps = c.loop-steps.steps;
       few = omega (arith, c.loop-steps-test.true);
@@ -59,12 +61,12 @@ loop-steps-preserved t c =
     let g = c.args.self.now in
     let q = g.question.now in
     let steps : ℕ = c.loop-steps.steps in
-    let s : ℕ = c.in-Some.state in
+    let s : ℕ = c.in-Some-most_raised.state in
     let table = c.in_ok-table.table.items in
     let next = c.in_ok-next.next.items in
     let step : IsTable q (up_step q (slice_index table)) next = rw c.deref.ensures.value at c.in_ok-next.ensures in
     let raised : RisesMost q (slice_index table) (slice_index next) s =
-    rw (c.deref-in-loop-steps.ensures.value, c.deref-in-loop-steps-2.ensures.value) at c.in-Some.ensures in
+    rw (c.deref-in-loop-steps.ensures.value, c.deref-in-loop-steps-2.ensures.value) at c.in-Some-most_raised.ensures in
     record {
       made = (IsTable-next q _ _ _ steps table next g.posed c.in_ok-table.ensures step, le_refl _);
       witnesses = witnesses-set q c.loop-steps.witnesses.states steps s c.loop-steps.invariant.witnesses raised.inside;

@@ -1,7 +1,7 @@
 use Rattle.std.proofs.Common.{◌<◌, arith}
 use Rattle.std.proofs.lemmas.Bool.Decides.{nat_tests}
 use Rattle.upper_guess.proofs.Entries.{refused-at}
-use Rattle.upper_guess.proofs.guesses.Guesses.refuses_at.Goals as goal
+use Rattle.upper_guess.proofs.guesses.Guesses.rises_at.Goals as goal
 
 pub returns : goal.returns
 returns c = λ h.
