@@ -24,11 +24,11 @@ use Rattle.rpatl_syntax.specs.Dual.{dual_of, answered_by}
 use Rattle.formula_sets.specs.Posing.{Model, Posing, Poses, initial_said, pose_said, pose_next_said}
 use Rattle.formula_sets.proofs.Asking.{initial-found, initial-again, pose-found, pose-again}
 use Rattle.formula_sets.proofs.AskingNext.{pose_next-found, pose_next-again}
-use Rattle.run_refusals.specs.declared.refusal.Refusal.{Refusal}
-use Rattle.run_refusals.specs.declared.refusal.Refusal.TheVariants.{OfTra, OfLab, OfOwn, OfFormula, OfQuestion}
-use Rattle.run_refusals.specs.declared.refusal.Refusal.TheVariants.{WrongKind}
-use Rattle.run_refusals.specs.declared.refusal.Text.{Text}
-use Rattle.run_refusals.specs.declared.refusal.Text.TheVariants.{Tra, Lab, Own}
+use Rattle.output.specs.declared.refusal.Refusal.{Refusal}
+use Rattle.output.specs.declared.refusal.Refusal.TheVariants.{OfTra, OfLab, OfOwn, OfFormula, OfQuestion}
+use Rattle.output.specs.declared.refusal.Refusal.TheVariants.{WrongKind}
+use Rattle.output.specs.declared.refusal.Text.{Text}
+use Rattle.output.specs.declared.refusal.Text.TheVariants.{Tra, Lab, Own}
 use Rattle.command_words.specs.Words.{Asked}
 use Rattle.asked_files.specs.declared.problem.Paths.{Paths}
 use Rattle.asked_files.specs.Problems.{Problem, OfReach, OfWithin, OfNext, OfNested, IsReaching, PosesProblem}

@@ -7,9 +7,9 @@ use Rattle.text_lines.specs.Limits.{most_bytes}
 use Rattle.game_outside.specs.Outside.{Holding}
 use Rattle.asked_files.specs.declared.load.End.{End}
 use Rattle.asked_files.specs.declared.load.End.TheVariants.{Refused, ReadFault}
-use Rattle.run_refusals.specs.declared.refusal.Text.{Text}
-use Rattle.run_refusals.specs.declared.refusal.Refusal.{Refusal}
-use Rattle.run_refusals.specs.declared.refusal.Refusal.TheVariants.{TooLong}
+use Rattle.output.specs.declared.refusal.Text.{Text}
+use Rattle.output.specs.declared.refusal.Refusal.{Refusal}
+use Rattle.output.specs.declared.refusal.Refusal.TheVariants.{TooLong}
 use Rattle.asked_files.specs.Said.{NotHeld, Refuses, Denoted}
 use Rattle.asked_files.specs.Sources.{IfKnown, SourceWith}
 use Rattle.asked_files.specs.Texts.{text_said}

@@ -3,7 +3,7 @@ use Rattle.std.proofs.Common.{◌≡◌, ◌≤◌, inl, inr, ℕ, Bool, Option,
 use Rattle.std.specs.Prelude.{IsErrOf}
 use Rattle.text_lines.specs.Limits.{most_bytes}
 use Rattle.game_outside.specs.Outside.{Holding}
-use Rattle.run_refusals.specs.declared.refusal.Refusal.TheVariants.{TooLong}
+use Rattle.output.specs.declared.refusal.Refusal.TheVariants.{TooLong}
 use Rattle.asked_files.specs.declared.load.End.{End}
 use Rattle.asked_files.specs.declared.load.End.TheVariants.{Refused, ReadFault, OutOfMemory}
 use Rattle.asked_files.specs.Loading.{IsTooLong, LoadingLeaves, Takes}

@@ -5,8 +5,8 @@ use Rattle.std.specs.Prelude.{nat_lt}
 use Rattle.std.proofs.lemmas.Bool.Decides.{nat_tests}
 use Rattle.std.proofs.lemmas.List.{length-replicate}
 use Rattle.text_lines.specs.Limits.{most_bytes}
-use Rattle.run_refusals.specs.declared.refusal.Text.{Text}
-use Rattle.run_refusals.specs.declared.refusal.Refusal.TheVariants.{TooLong}
+use Rattle.output.specs.declared.refusal.Text.{Text}
+use Rattle.output.specs.declared.refusal.Refusal.TheVariants.{TooLong}
 use Rattle.asked_files.specs.Said.{Refuses, Denoted}
 use Rattle.asked_files.specs.Texts.{text_said}
 

@@ -7,7 +7,7 @@ use Rattle.label_lines.specs.Owners.{Ownership}
 use Rattle.formula_reader.specs.Formula.{Tree, tree_of}
 use Rattle.formula_reader.specs.Rules.{DenotesFormula}
 use Rattle.command_words.specs.Words.{Asked}
-use Rattle.run_refusals.specs.declared.refusal.Refusal.{Refusal}
+use Rattle.output.specs.declared.refusal.Refusal.{Refusal}
 use Rattle.asked_files.specs.declared.load.End.{End}
 use Rattle.asked_files.specs.declared.load.End.TheVariants.{Refused}
 use Rattle.asked_files.specs.Loading.{Loads}

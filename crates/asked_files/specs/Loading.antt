@@ -5,11 +5,11 @@ use Rattle.game_outside.specs.Limits.{piece_size}
 use Rattle.game_outside.specs.declared.file.FileEnd.{FileEnd}
 use Rattle.game_outside.specs.declared.file.FileEnd.TheVariants as file
 use Rattle.game_outside.specs.Outside.{Holding, Rose, KeepsShelf}
-use Rattle.run_refusals.specs.declared.refusal.Text.{Text}
+use Rattle.output.specs.declared.refusal.Text.{Text}
 use Rattle.formula_sets.specs.declared.fault.PoseFault.{PoseFault}
 use Rattle.formula_sets.specs.declared.fault.PoseFault.TheVariants as pose
-use Rattle.run_refusals.specs.declared.refusal.Refusal.TheVariants.{TooLong, OfQuestion}
-use Rattle.run_refusals.specs.Caused.{IsCaused}
+use Rattle.output.specs.declared.refusal.Refusal.TheVariants.{TooLong, OfQuestion}
+use Rattle.output.specs.Caused.{IsCaused}
 use Rattle.asked_files.specs.declared.load.End.{End}
 use Rattle.asked_files.specs.declared.load.End.TheVariants.{OutOfMemory, ReadFault, Refused}
 use Rattle.asked_files.specs.Said.{Said, NotHeld, Refuses, Denoted}

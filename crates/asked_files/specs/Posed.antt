@@ -9,7 +9,7 @@ use Rattle.rpatl_syntax.specs.Dual.{dual_of}
 use Rattle.formula_reader.specs.declared.formula.PathKind.{PathKind}
 use Rattle.formula_reader.specs.declared.formula.PathKind.TheVariants.{Until, Within, Next, Always}
 use Rattle.formula_sets.specs.Posing.{initial_said, pose_said, pose_next_said}
-use Rattle.run_refusals.specs.declared.refusal.Refusal.TheVariants.{OfFormula, OfQuestion, WrongKind}
+use Rattle.output.specs.declared.refusal.Refusal.TheVariants.{OfFormula, OfQuestion, WrongKind}
 use Rattle.asked_files.specs.declared.model.Loaded.{Loaded}
 use Rattle.command_words.specs.Words.{Asked}
 use Rattle.asked_files.specs.declared.problem.Paths.{Paths}

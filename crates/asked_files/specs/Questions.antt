@@ -8,9 +8,9 @@ use Rattle.formula_reader.specs.Rules.{DenotesFormula}
 use Rattle.certificate_audit.specs.Refused.{IsRefused}
 use Rattle.values_reader.specs.Faults.{fault_of}
 use Rattle.command_words.specs.Words.{Asked}
-use Rattle.run_refusals.specs.declared.refusal.Refusal.{Refusal}
-use Rattle.run_refusals.specs.declared.refusal.Refusal.TheVariants.{OfCertificate, OfValues, TooLong}
-use Rattle.run_refusals.specs.declared.refusal.Text.TheVariants.{Cert, Values}
+use Rattle.output.specs.declared.refusal.Refusal.{Refusal}
+use Rattle.output.specs.declared.refusal.Refusal.TheVariants.{OfCertificate, OfValues, TooLong}
+use Rattle.output.specs.declared.refusal.Text.TheVariants.{Cert, Values}
 use Rattle.asked_files.specs.declared.problem.Paths.{Paths}
 use Rattle.asked_files.specs.Problems.{Problem}
 use Rattle.asked_files.specs.Said.{Said, NotHeld, Refuses, Denoted}

@@ -1,6 +1,6 @@
 -- This module says what the texts of a run say, one after another.
 use Rattle.std.specs.Prelude.{Result, Ok, Err}
-use Rattle.run_refusals.specs.declared.refusal.Refusal.{Refusal}
+use Rattle.output.specs.declared.refusal.Refusal.{Refusal}
 
 -- Texts say something, or a text that is needed is not held, or there is a first refusal.
 pub data Said (X : Type 0) : Type 0 where

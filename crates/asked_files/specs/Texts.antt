@@ -6,9 +6,9 @@ use Rattle.transition_lines.specs.Text.{game_of}
 use Rattle.label_lines.specs.Labels.{Labelling}
 use Rattle.label_lines.specs.Owners.{Ownership}
 use Rattle.label_lines.specs.Texts.{labels_of, owners_of}
-use Rattle.run_refusals.specs.declared.refusal.Text.{Text}
-use Rattle.run_refusals.specs.declared.refusal.Text.TheVariants.{Tra, Lab, Own}
-use Rattle.run_refusals.specs.declared.refusal.Refusal.TheVariants.{OfTra, OfLab, OfOwn, TooLong}
+use Rattle.output.specs.declared.refusal.Text.{Text}
+use Rattle.output.specs.declared.refusal.Text.TheVariants.{Tra, Lab, Own}
+use Rattle.output.specs.declared.refusal.Refusal.TheVariants.{OfTra, OfLab, OfOwn, TooLong}
 use Rattle.asked_files.specs.Said.{Said, NotHeld, Refuses, Denoted, and_then, read_said}
 
 -- These are the bytes of a text.

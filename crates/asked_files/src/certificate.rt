@@ -5,7 +5,7 @@ ghost use Rattle.text_lines.specs.Limits.{most_bytes};
 ghost use Rattle.certificate_audit.specs.Accepted.{IsAccepted, IsSoundPlan};
 ghost use Rattle.certificate_audit.specs.Refused.{IsRefused, IsOutOfMemory};
 ghost use Rattle.certificate_audit.specs.declared.fault.AuditFault.{AuditFault};
-ghost use Rattle.run_refusals.specs.declared.refusal.Refusal.{Refusal};
+ghost use Rattle.output.specs.declared.refusal.Refusal.{Refusal};
 ghost use Rattle.asked_files.specs.Asks.{GivenTextWith};
 ghost use Rattle.asked_files.specs.Sources.{SourceWith, IfKnown};
 ghost use Rattle.asked_files.specs.Loading.{IsTooLong, LoadingLeaves, EndsCaused};
@@ -15,8 +15,8 @@ use crate::load::{End, load_text};
 use certificate_audit::{AuditFault, audit};
 use game_model::Question;
 use game_outside::Shelf;
+use output::{Refusal, Text};
 use plan_text::{Plan, PlanCause};
-use run_refusals::{Refusal, Text};
 use std::alloc::Global;
 
 /// Reads the certificate of a file, if a question accepts it.

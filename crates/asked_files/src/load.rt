@@ -10,7 +10,7 @@ use formula_sets::PoseFault;
 use game_model::Game;
 use game_outside::{FileEnd, OutOfMemory, ReadEnd, Shelf, read_all};
 use label_reader::{Labels, Owners, read_labels_from, read_owners_from};
-use run_refusals::{Refusal, Text};
+use output::{Refusal, Text};
 use std::alloc::Global;
 use text_lines::MOST_BYTES;
 use tra_reader::read_tra_from;

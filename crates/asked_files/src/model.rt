@@ -5,7 +5,7 @@ ghost use Rattle.rpatl_syntax.specs.Dual.{IsAtMostOne};
 ghost use Rattle.formula_reader.specs.Formula.{IsFlat, is_flat, tree_of};
 ghost use Rattle.formula_reader.specs.Rules.{DenotesFormula};
 ghost use Rattle.command_words.specs.Words.{asked_of_words};
-ghost use Rattle.run_refusals.specs.declared.refusal.Refusal.{Refusal};
+ghost use Rattle.output.specs.declared.refusal.Refusal.{Refusal};
 ghost use Rattle.asked_files.specs.Said.{Refuses};
 ghost use Rattle.asked_files.specs.Loading.{LoadingLeaves, Loads, IsTooLong, ReadsNothing, EndsCaused};
 ghost use Rattle.asked_files.specs.Posed.{HasSizes, any_posed, formula_read, nested_posed, posed, posed_by, reading_of};
@@ -23,9 +23,9 @@ use formula_tokens::FormulaCause;
 use game_model::Game;
 use game_outside::Shelf;
 use label_reader::{Labels, Owners};
+use output::Refusal;
 use rpatl_syntax::dual;
 use rpatl_syntax::laws::thresholds_are_at_most_one;
-use run_refusals::Refusal;
 use std::alloc::Global;
 
 /// This is a game, its labels, its owners, and a formula.

@@ -4,7 +4,7 @@ ghost use Rattle.std.specs.Prelude.{◌≡◌, ◌≤◌, None, Some, Err, IfOk,
 ghost use Rattle.text_lines.specs.Limits.{most_bytes};
 ghost use Rattle.values_reader.specs.Faults.{fault_of};
 ghost use Rattle.values_reader.specs.declared.fault.ValuesFault.{ValuesFault};
-ghost use Rattle.run_refusals.specs.declared.refusal.Refusal.{Refusal};
+ghost use Rattle.output.specs.declared.refusal.Refusal.{Refusal};
 ghost use Rattle.asked_files.specs.Asks.{GivenTextWith};
 ghost use Rattle.asked_files.specs.Sources.{SourceWith, IfKnown};
 ghost use Rattle.asked_files.specs.Loading.{IsTooLong, LoadingLeaves, EndsCaused};
@@ -12,7 +12,7 @@ ghost use Rattle.asked_files.specs.Questions.{GivesValues, LacksValues, RefusesV
 
 use crate::load::{End, load_text};
 use game_outside::Shelf;
-use run_refusals::{Refusal, Text};
+use output::{Refusal, Text};
 use std::alloc::Global;
 use values_reader::{ValuesEnd, read_values};
 

@@ -12,19 +12,19 @@ use Rattle.plan_text.specs.declared.plan.Plan.{Plan}
 use Rattle.verdicts.specs.declared.report.How.{How}
 use Rattle.verdicts.specs.declared.report.How.TheVariants.{Rounds, Solved}
 use Rattle.command_words.specs.Words.{Check}
-use Rattle.run_answers.specs.declared.status.Status.{Status}
-use Rattle.run_answers.specs.Printed.{output_of}
+use Rattle.output.specs.declared.status.Status.{Status}
+use Rattle.output.specs.Printed.{output_of}
 use Rattle.asked_files.specs.declared.problem.Paths.TheVariants.{Unbounded}
 use Rattle.asked_files.specs.Problems.{Problem, OfReach, OfWithin, OfNext, OfNested, PosesProblem, posing_in, takes}
 use Rattle.asked_files.specs.Problems.{takes_formula}
 use Rattle.rpatl_syntax.specs.Dual.{answered}
 use Rattle.question_reports.specs.Reports.{IsBracketReport}
 use Rattle.question_reports.specs.Solved.{IsSolved}
-use Rattle.run_answers.proofs.Passing.{AreReadBack, read-behind}
-use Rattle.run_answers.proofs.PlainParts.{HasPlainParts}
+use Rattle.output.proofs.Passing.{AreReadBack, read-behind}
+use Rattle.output.proofs.PlainParts.{HasPlainParts}
 use Rattle.plan_text.specs.Said.{entries_said}
 use Rattle.plan_text.specs.Certificate.{IsCertificate}
-use Rattle.run_answers.specs.Outputs.{output_text, IsInLimits}
+use Rattle.output.specs.Outputs.{output_text, IsInLimits}
 
 -- 1. Of a report with a plan.
 

@@ -11,8 +11,8 @@ use Rattle.verdicts.specs.Report.{IsLine, report}
 use Rattle.verdicts.specs.Open.{LeavesOpen}
 use Rattle.verdicts.specs.declared.report.How.TheVariants.{Audited}
 use Rattle.verdicts.specs.declared.verdict.Verdict.TheVariants.{Undecided}
-use Rattle.run_answers.specs.declared.status.Status.{Status}
-use Rattle.run_answers.specs.Printed.{is_mirrored, status_of}
+use Rattle.output.specs.declared.status.Status.{Status}
+use Rattle.output.specs.Printed.{is_mirrored, status_of}
 use Rattle.question_reports.specs.Audits.{IsAudited}
 use Rattle.rpatl_syntax.specs.Dual.{answered}
 use Rattle.question_reports.proofs.Valued.{told}

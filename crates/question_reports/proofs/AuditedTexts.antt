@@ -7,7 +7,7 @@ use Rattle.plan_text.specs.declared.plan.Plan.{Plan}
 use Rattle.certificate_audit.specs.Accepted.{IsAccepted}
 use Rattle.asked_files.specs.Asks.{GivenTextWith}
 use Rattle.asked_files.specs.Sources.{SourceWith}
-use Rattle.run_answers.specs.declared.status.Status.{Status}
+use Rattle.output.specs.declared.status.Status.{Status}
 use Rattle.question_reports.specs.Audits.{IsAudited, IsAudit}
 
 pub accepted_audited : (holding : Option Holding) (name : List ℕ) (q : Query)

@@ -17,8 +17,8 @@ use Rattle.bracket_engine.specs.Bracket.{IsBracket}
 use Rattle.bracket_engine.specs.Found.{IsFound}
 use Rattle.bracket_engine.specs.Lower.{IsLowerTable}
 use Rattle.bracket_engine.specs.Stop.{AreSettledAt}
-use Rattle.run_answers.specs.declared.status.Status.{Status}
-use Rattle.run_answers.specs.declared.status.Status.TheVariants.{Fine}
+use Rattle.output.specs.declared.status.Status.{Status}
+use Rattle.output.specs.declared.status.Status.TheVariants.{Fine}
 use Rattle.question_reports.specs.Made.{sum_of, summary_text, status_made, drawn_question, IsMade}
 
 -- 1. A bracket that asks for a value ends early only where it is stable.

@@ -22,8 +22,8 @@ use Rattle.verdicts.specs.Report.{IsLine, HasCount}
 use Rattle.verdicts.specs.declared.report.How.{How}
 use Rattle.verdicts.specs.declared.report.ReportLine.{ReportLine}
 use Rattle.bracket_engine.specs.Choices.{AreChoices}
-use Rattle.run_answers.specs.Outputs.{AreEntriesInLimits, IsInLimits}
-use Rattle.run_answers.specs.Printed.{is_mirrored, line_of, certificate_of, output_of}
+use Rattle.output.specs.Outputs.{AreEntriesInLimits, IsInLimits}
+use Rattle.output.specs.Printed.{is_mirrored, line_of, certificate_of, output_of}
 
 -- 1. Choices.
 

@@ -14,9 +14,9 @@ use Rattle.nested_truth.specs.Seen.{band_of}
 use Rattle.verdicts.specs.Report.{HasCount, IsLine, report}
 use Rattle.verdicts.specs.declared.report.ReportLine.{ReportLine}
 use Rattle.question_reports.specs.Nested.{IsNestedReport, inside_text}
-use Rattle.run_answers.specs.Printed.{line_of, status_of}
-use Rattle.run_answers.specs.declared.answer.Answer.{Answer}
-use Rattle.run_answers.specs.declared.status.Status.{Status}
+use Rattle.output.specs.Printed.{line_of, status_of}
+use Rattle.output.specs.declared.answer.Answer.{Answer}
+use Rattle.output.specs.declared.status.Status.{Status}
 use Rattle.question_reports.proofs.Limits.{at-most}
 
 -- bounds that were found, with what their types and their game keep

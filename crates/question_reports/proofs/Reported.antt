@@ -19,17 +19,17 @@ use Rattle.verdicts.specs.Open.{IsLeftOpen}
 use Rattle.bracket_engine.specs.declared.bounds.Bracket.{Bracket}
 use Rattle.bracket_engine.specs.Bracket.{IsBracket}
 use Rattle.command_words.specs.Words.{Check}
-use Rattle.run_answers.specs.declared.status.Status.{Status}
+use Rattle.output.specs.declared.status.Status.{Status}
 use Rattle.formula_reader.specs.declared.formula.PathKind.{PathKind}
 use Rattle.formula_reader.specs.declared.formula.PathKind.TheVariants.{Until, Within, Next, Always}
 use Rattle.rpatl_syntax.specs.Dual.{IsAtMostOne, dual_bound, answered_by, answered}
-use Rattle.run_answers.specs.Printed.{is_mirrored, status_of, output_of}
+use Rattle.output.specs.Printed.{is_mirrored, status_of, output_of}
 use Rattle.bracket_engine.specs.Found.{IsFound}
 use Rattle.bracket_engine.proofs.Opening.{left-open}
 use Rattle.question_reports.specs.Reports.{IsShown, IsBracketReport}
 use Rattle.question_reports.proofs.Limits.{plan_line}
 use Rattle.question_reports.proofs.Valued.{told}
-use Rattle.run_answers.specs.Outputs.{output_text, IsInLimits}
+use Rattle.output.specs.Outputs.{output_text, IsInLimits}
 
 -- 1. Verdicts of `G` and of its dual.
 

@@ -18,18 +18,18 @@ use Rattle.verdicts.specs.Report.{IsLine}
 use Rattle.formula_sets.specs.Posing.{Model}
 use Rattle.formula_truth.specs.declared.way.Way.{Way}
 use Rattle.command_words.specs.Words.{Check}
-use Rattle.run_answers.specs.declared.status.Status.{Status}
-use Rattle.run_answers.specs.Outputs.{certificate_part, output_text, AreEntriesInLimits, IsInLimits}
-use Rattle.run_answers.specs.Printed.{line_of, certificate_of, output_of}
+use Rattle.output.specs.declared.status.Status.{Status}
+use Rattle.output.specs.Outputs.{certificate_part, output_text, AreEntriesInLimits, IsInLimits}
+use Rattle.output.specs.Printed.{line_of, certificate_of, output_of}
 use Rattle.rpatl_syntax.specs.Dual.{answered}
 use Rattle.question_reports.specs.Reports.{IsBracketReport}
 use Rattle.question_reports.specs.Solved.{IsSolved}
 use Rattle.question_reports.specs.Sweeps.{IsSweepReport}
 use Rattle.question_reports.specs.Nested.{IsNestedReport, inside_text}
 use Rattle.question_reports.proofs.Limits.{plan_line}
-use Rattle.run_answers.proofs.ShortLines.{entry_bytes, line_bytes, joined-short, decimal-short, report-short}
-use Rattle.run_answers.proofs.ShortLines.{certificate-short}
-use Rattle.run_answers.proofs.ShortSpellings.{most_spelled}
+use Rattle.output.proofs.ShortLines.{entry_bytes, line_bytes, joined-short, decimal-short, report-short}
+use Rattle.output.proofs.ShortLines.{certificate-short}
+use Rattle.output.proofs.ShortSpellings.{most_spelled}
 
 -- the most bytes behind the report: the line of the formula, and the certificate
 abbrev most_behind : ℕ

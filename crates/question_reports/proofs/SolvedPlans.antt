@@ -13,9 +13,9 @@ use Rattle.bracket_engine.specs.Choices.{AreChoices}
 use Rattle.verdicts.specs.Open.{LeavesOpen}
 use Rattle.verdicts.specs.declared.report.How.TheVariants.{Solved}
 use Rattle.verdicts.specs.declared.verdict.Verdict.TheVariants.{Undecided}
-use Rattle.run_answers.specs.Outputs.{output_text}
-use Rattle.run_answers.specs.Printed.{output_of, status_of}
-use Rattle.run_answers.specs.declared.status.Status.{Status}
+use Rattle.output.specs.Outputs.{output_text}
+use Rattle.output.specs.Printed.{output_of, status_of}
+use Rattle.output.specs.declared.status.Status.{Status}
 use Rattle.question_reports.specs.Solved.{IsSolved}
 use Rattle.question_reports.proofs.Limits.{IsPrintable, plan_line, printed-in_limits}
 use Rattle.question_reports.proofs.Valued.{told}

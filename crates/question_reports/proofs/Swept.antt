@@ -15,9 +15,9 @@ use Rattle.verdicts.specs.Exact.{IsRight}
 use Rattle.verdicts.specs.Report.{IsLine, report}
 use Rattle.verdicts.specs.Verdict.{verdict_of}
 use Rattle.verdicts.specs.declared.report.How.TheVariants.{Steps}
-use Rattle.run_answers.specs.Printed.{line_of, status_of}
+use Rattle.output.specs.Printed.{line_of, status_of}
 use Rattle.question_reports.specs.Sweeps.{IsSweepReport}
-use Rattle.run_answers.specs.declared.status.Status.{Status}
+use Rattle.output.specs.declared.status.Status.{Status}
 use Rattle.question_reports.proofs.Limits.{at-most, printed-units}
 
 bracketed-same : (margin parts low lower high upper value other : ℕ) → lower ≡ low → upper ≡ high → value ≡ other

@@ -14,8 +14,8 @@ use Rattle.plan_text.specs.declared.plan.Plan.{Plan}
 use Rattle.certificate_audit.specs.Accepted.{IsSoundPlan}
 use Rattle.verdicts.proofs.Fractions.{right}
 use Rattle.verdicts.specs.declared.report.How.{How}
-use Rattle.run_answers.specs.Printed.{is_mirrored, status_of}
-use Rattle.run_answers.specs.declared.status.Status.{Status}
+use Rattle.output.specs.Printed.{is_mirrored, status_of}
+use Rattle.output.specs.declared.status.Status.{Status}
 use Rattle.question_reports.specs.Valued.{asked_value, IsPrintedOf, KeepsAway, IsTold}
 use Rattle.question_reports.proofs.Limits.{plan_line}
 

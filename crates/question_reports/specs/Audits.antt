@@ -9,8 +9,8 @@ use Rattle.verdicts.specs.Report.{IsLine, report}
 use Rattle.verdicts.specs.declared.report.How.TheVariants.{Audited}
 use Rattle.verdicts.specs.declared.verdict.Verdict.TheVariants.{Undecided}
 use Rattle.rpatl_syntax.specs.Dual.{answered}
-use Rattle.run_answers.specs.Printed.{output_of}
-use Rattle.run_answers.specs.declared.status.Status.{Status}
+use Rattle.output.specs.Printed.{output_of}
+use Rattle.output.specs.declared.status.Status.{Status}
 use Rattle.question_reports.specs.Valued.{IsTold}
 
 -- The text and the status say of the initial states what the certificate says, and that is right. For `G` the

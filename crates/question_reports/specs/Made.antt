@@ -7,9 +7,9 @@ use Rattle.drawn_game.specs.Asked.{question_of}
 use Rattle.formula_reader.specs.declared.formula.Bound.TheVariants.{AskMax}
 use Rattle.bracket_engine.specs.declared.bounds.Bracket.{Bracket}
 use Rattle.bracket_engine.specs.Found.{IsFound}
-use Rattle.run_answers.specs.declared.status.Status.{Status}
-use Rattle.run_answers.specs.declared.status.Status.TheVariants.{Fine, SomeUndecided}
-use Rattle.run_refusals.specs.Refusals.{numbered}
+use Rattle.output.specs.declared.status.Status.{Status}
+use Rattle.output.specs.declared.status.Status.TheVariants.{Fine, SomeUndecided}
+use Rattle.output.specs.Refusals.{numbered}
 
 -- The sum of a table is taken over all states, in units.
 abbrev pub sum_of : List ℕ → ℕ

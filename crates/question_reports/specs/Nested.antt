@@ -7,13 +7,13 @@ use Rattle.formula_sets.specs.Posing.{Model, initial_said}
 use Rattle.formula_truth.specs.declared.way.Way.{Way}
 use Rattle.formula_truth.specs.Bands.{Band}
 use Rattle.nested_truth.specs.Nested.{IsNested}
-use Rattle.run_refusals.specs.Refusals.{numbered}
+use Rattle.output.specs.Refusals.{numbered}
 use Rattle.verdicts.specs.Report.{IsLine, report}
 use Rattle.verdicts.specs.declared.report.How.{How}
 use Rattle.asked_files.specs.declared.model.Loaded.{Loaded}
 use Rattle.asked_files.specs.Posed.{HasSizes}
-use Rattle.run_answers.specs.Printed.{line_of, status_of}
-use Rattle.run_answers.specs.declared.status.Status.{Status}
+use Rattle.output.specs.Printed.{line_of, status_of}
+use Rattle.output.specs.declared.status.Status.{Status}
 
 -- The line `inner I undecided U` says that I formulas are inside, and that U pairs of one of them and a state are left
 -- undecided.

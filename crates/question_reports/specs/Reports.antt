@@ -16,9 +16,9 @@ use Rattle.bracket_engine.specs.Found.{IsFound}
 use Rattle.trap_sets.specs.Lowered.{IsLoweredTable}
 use Rattle.rpatl_syntax.specs.Dual.{answered}
 use Rattle.command_words.specs.Words.{Check}
-use Rattle.run_answers.specs.Outputs.{output_text, IsInLimits}
-use Rattle.run_answers.specs.Printed.{output_of}
-use Rattle.run_answers.specs.declared.status.Status.{Status}
+use Rattle.output.specs.Outputs.{output_text, IsInLimits}
+use Rattle.output.specs.Printed.{output_of}
+use Rattle.output.specs.declared.status.Status.{Status}
 use Rattle.question_reports.specs.Valued.{IsTold}
 
 -- 1. What is printed of what was found.

@@ -11,9 +11,9 @@ use Rattle.solved_plans.specs.Plans.{IsSureExactly, IsZeroExactly}
 use Rattle.verdicts.specs.Open.{LeavesOpen}
 use Rattle.verdicts.specs.declared.report.How.TheVariants.{Solved}
 use Rattle.verdicts.specs.declared.verdict.Verdict.TheVariants.{Undecided}
-use Rattle.run_answers.specs.Outputs.{output_text, IsInLimits}
-use Rattle.run_answers.specs.Printed.{output_of}
-use Rattle.run_answers.specs.declared.status.Status.{Status}
+use Rattle.output.specs.Outputs.{output_text, IsInLimits}
+use Rattle.output.specs.Printed.{output_of}
+use Rattle.output.specs.declared.status.Status.{Status}
 use Rattle.question_reports.specs.Valued.{IsTold}
 
 -- The text and the status are the answer: they are those of a plan that passes an audit and is sound. For `G` the

@@ -12,8 +12,8 @@ use Rattle.bounded_rounds.specs.Steps.{IsSweep}
 use Rattle.verdicts.specs.Exact.{IsRight}
 use Rattle.verdicts.specs.Report.{IsLine, report}
 use Rattle.verdicts.specs.declared.report.How.TheVariants.{Steps}
-use Rattle.run_answers.specs.Printed.{line_of, status_of}
-use Rattle.run_answers.specs.declared.status.Status.{Status}
+use Rattle.output.specs.Printed.{line_of, status_of}
+use Rattle.output.specs.declared.status.Status.{Status}
 
 -- The text and the status are the answer for the values of this many steps from an opening table. The values are these
 -- numerators over that power of the denominator, and the bounds are the rounded steps of the table.

@@ -9,8 +9,8 @@ use Rattle.plan_text.specs.declared.plan.Plan.{Plan}
 use Rattle.certificate_audit.specs.Accepted.{IsSoundPlan}
 use Rattle.verdicts.specs.Exact.{IsRight}
 use Rattle.verdicts.specs.declared.report.ReportLine.{ReportLine}
-use Rattle.run_answers.specs.Printed.{is_mirrored, status_of}
-use Rattle.run_answers.specs.declared.status.Status.{Status}
+use Rattle.output.specs.Printed.{is_mirrored, status_of}
+use Rattle.output.specs.declared.status.Status.{Status}
 
 -- The value that a formula asks for at a state is that of the question, or for `G` it is 1 less that of the dual.
 abbrev pub asked_value : {q : Query} → Tree → HasValues q → ℕ → ℕ

@@ -6,14 +6,14 @@ ghost use Rattle.rpatl_syntax.specs.Dual.{IsAtMostOne};
 ghost use Rattle.formula_reader.specs.Formula.{tree_of};
 ghost use Rattle.plan_text.specs.Entries.{HasStates};
 ghost use Rattle.certificate_audit.specs.Accepted.{Passes, IsSoundPlan};
-ghost use Rattle.run_answers.specs.Status.{IsAnswer};
+ghost use Rattle.output.specs.Status.{IsAnswer};
 ghost use Rattle.question_reports.specs.Audits.{IsAudited};
 
 use formula_reader::Formula;
 use game_model::Question;
 use game_outside::OutOfMemory;
+use output::{Answer, is_mirrored, report_of};
 use plan_text::Plan;
-use run_answers::{Answer, is_mirrored, report_of};
 use std::alloc::Global;
 use verdicts::How;
 use verdicts::laws::{mirrored_verdicts_are_those_of_the_dual, undecided_thresholds_are_left_open};

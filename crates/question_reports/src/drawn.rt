@@ -8,7 +8,7 @@ ghost use Rattle.std.specs.Prelude.{◌≡◌, ◌<◌, ◌^◌, IfOk, count_by}
 ghost use Rattle.std.specs.String.{string_bytes};
 ghost use Rattle.command_words.specs.Words.{IsMakeInRange, make_of};
 ghost use Rattle.question_reports.specs.Made.{IsMade, ending, status_made, sum_of, summary_text};
-ghost use Rattle.run_answers.specs.Status.{IsAnswer};
+ghost use Rattle.output.specs.Status.{IsAnswer};
 
 use bracket_engine::{Bracket, bracket_for};
 use command_words::MakeWords;
@@ -16,8 +16,8 @@ use drawn_game::draw_game;
 use formula_reader::Bound;
 use game_model::Marks;
 use game_outside::{Gate, OutOfMemory};
+use output::{Answer, Status};
 use predecessors::Predecessors;
-use run_answers::{Answer, Status};
 use std::alloc::{AllocError, Global};
 use std::thread::Threads;
 

@@ -8,7 +8,7 @@ ghost use Rattle.plan_text.specs.declared.plan.Plan.{Plan};
 ghost use Rattle.plan_text.specs.Entries.{HasStates};
 ghost use Rattle.certificate_audit.specs.Accepted.{IsSoundPlan, Passes};
 ghost use Rattle.formula_truth.specs.Rest.{IsBelowRest, IsNearRest};
-ghost use Rattle.run_answers.specs.declared.status.Status.TheVariants.{Fine};
+ghost use Rattle.output.specs.declared.status.Status.TheVariants.{Fine};
 ghost use Rattle.question_reports.specs.Made.{IsMade};
 
 use bracket_engine::laws::{lower_tables_agree, settled_bases_agree, settled_upper_bounds_agree};

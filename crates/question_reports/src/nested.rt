@@ -9,15 +9,15 @@ ghost use Rattle.bracket_engine.specs.Limits.{most_rounds};
 ghost use Rattle.bounded_rounds.specs.Limits.{most_workers};
 ghost use Rattle.formula_truth.specs.Runs.{rounds_of};
 ghost use Rattle.question_reports.specs.Nested.{IsAnswerable, IsNestedReport, inside_text};
-ghost use Rattle.run_answers.specs.Printed.{line_of, status_of};
-ghost use Rattle.run_answers.specs.Status.{IsAnswer};
+ghost use Rattle.output.specs.Printed.{line_of, status_of};
+ghost use Rattle.output.specs.Status.{IsAnswer};
 
 use asked_files::Loaded;
 use formula_truth::Way;
 use game_outside::{Gate, OutOfMemory};
 use nested_truth::{Nested, nested};
+use output::{Answer, report_of};
 use plan_text::append;
-use run_answers::{Answer, report_of};
 use std::alloc::{AllocError, Global};
 use std::thread::Threads;
 use verdicts::How;

@@ -4,15 +4,15 @@ ghost use Rattle.std.specs.Prelude.{◌≡◌, ◌<◌, All, IfOk};
 ghost use Rattle.game_model.specs.Query.{states};
 ghost use Rattle.rpatl_syntax.specs.Dual.{IsAtMostOne, answered as answered_of};
 ghost use Rattle.formula_reader.specs.Formula.{tree_of};
-ghost use Rattle.run_answers.specs.Status.{IsAnswer};
+ghost use Rattle.output.specs.Status.{IsAnswer};
 ghost use Rattle.question_reports.specs.Solved.{IsSolved};
 
 use crate::reports::{Formulas, make_answer};
 use formula_reader::{Bound, Formula};
 use formula_sets::Posed;
 use game_outside::{Gate, OutOfMemory};
+use output::Answer;
 use predecessors::Predecessors;
-use run_answers::Answer;
 use solved_questions::solve_question;
 use std::alloc::Global;
 use std::thread::Threads;

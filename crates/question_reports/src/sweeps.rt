@@ -7,7 +7,7 @@ ghost use Rattle.formula_reader.specs.Formula.{tree_of};
 ghost use Rattle.bounded_rounds.specs.Exact.{exact_from};
 ghost use Rattle.bounded_rounds.specs.Limits.{most_steps, most_workers};
 ghost use Rattle.bounded_rounds.specs.Steps.{IsSweep};
-ghost use Rattle.run_answers.specs.Status.{IsAnswer};
+ghost use Rattle.output.specs.Status.{IsAnswer};
 ghost use Rattle.question_reports.specs.Sweeps.{IsNextReport, IsOpening, IsSweepReport, IsWithinReport};
 
 use bounded_rounds::laws::{
@@ -18,7 +18,7 @@ use formula_reader::Formula;
 use formula_sets::{Posed, PosedNext};
 use game_model::Question;
 use game_outside::{Gate, OutOfMemory};
-use run_answers::{Answer, report_of};
+use output::{Answer, report_of};
 use std::alloc::Global;
 use std::thread::Threads;
 use verdicts::How;

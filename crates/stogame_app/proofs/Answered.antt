@@ -7,8 +7,8 @@ use Rattle.game_outside.specs.Outside.{Holding}
 use Rattle.game_model.specs.Query.{states}
 use Rattle.command_words.specs.Words.{Asked, Check, Audit, Solve, Command, OfCheck, OfAudit, OfSolve, OfSure}
 use Rattle.command_words.specs.Words.{AreCommand}
-use Rattle.run_refusals.specs.declared.refusal.Refusal.{Refusal}
-use Rattle.run_refusals.specs.declared.refusal.Refusal.TheVariants.{TooLong}
+use Rattle.output.specs.declared.refusal.Refusal.{Refusal}
+use Rattle.output.specs.declared.refusal.Refusal.TheVariants.{TooLong}
 use Rattle.asked_files.specs.declared.load.End.{End}
 use Rattle.asked_files.specs.declared.load.End.TheVariants.{OutOfMemory, ReadFault, Refused}
 use Rattle.asked_files.specs.declared.problem.Paths.{Paths}
@@ -23,8 +23,8 @@ use Rattle.asked_files.specs.Asks.{Asks}
 use Rattle.asked_files.proofs.Leaving.{answer_leaves, answer_small, both_leave, end_leaves, other_end}
 use Rattle.asked_files.specs.Questions.{LacksText, LacksValues, PosesIt, Reads, ReadsAs, RefusesCertificate}
 use Rattle.asked_files.specs.Questions.{RefusesQuestion, RefusesValues}
-use Rattle.run_answers.specs.declared.answer.Answer.{Answer}
-use Rattle.run_answers.specs.Status.{IsAnswer}
+use Rattle.output.specs.declared.answer.Answer.{Answer}
+use Rattle.output.specs.Status.{IsAnswer}
 use Rattle.stogame_app.specs.Commands.{IsMissing, ReadsFiles, RefusesIt, check_paths, solve_paths}
 use Rattle.stogame_app.specs.Reports.{IsReportOfWords}
 use Rattle.stogame_app.specs.inside.Answers.{IsAnswered, IsMadeOf}

@@ -11,7 +11,7 @@ use Rattle.strategies.specs.Stopping.{AreClose}
 use Rattle.formula_reader.specs.Formula.{Tree}
 use Rattle.plan_text.specs.declared.plan.Plan.{Plan}
 use Rattle.command_words.specs.Words.{Check}
-use Rattle.run_answers.specs.declared.status.Status.{Status}
+use Rattle.output.specs.declared.status.Status.{Status}
 use Rattle.question_reports.specs.Reports.{IsBracketReport}
 
 higher : (x v w r p : ℕ) → x ≤ (v + r) * p → v ≤ w → x ≤ (w + r) * p

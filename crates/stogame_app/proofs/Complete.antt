@@ -10,9 +10,9 @@ use Rattle.certificate_audit.specs.declared.fault.AuditFault.{AuditFault}
 use Rattle.certificate_audit.specs.Accepted.{IsAccepted}
 use Rattle.certificate_audit.specs.Refused.{IsRefused}
 use Rattle.command_words.specs.Words.{Asked, Command, OfCheck, OfAudit, OfSolve, OfMake, OfSure, AreCommand}
-use Rattle.run_refusals.specs.declared.refusal.Text.TheVariants.{Cert, Values}
-use Rattle.run_refusals.specs.declared.refusal.Refusal.{Refusal}
-use Rattle.run_refusals.specs.declared.refusal.Refusal.TheVariants.{OfCertificate, OfValues, TooLong}
+use Rattle.output.specs.declared.refusal.Text.TheVariants.{Cert, Values}
+use Rattle.output.specs.declared.refusal.Refusal.{Refusal}
+use Rattle.output.specs.declared.refusal.Refusal.TheVariants.{OfCertificate, OfValues, TooLong}
 use Rattle.asked_files.specs.declared.problem.Paths.{Paths}
 use Rattle.asked_files.specs.declared.problem.Paths.TheVariants.{Unbounded, Reaching}
 use Rattle.formula_sets.specs.Posing.{Posing}
@@ -23,10 +23,10 @@ use Rattle.asked_files.specs.Posed.{posed, problem_said, reading_said}
 use Rattle.asked_files.specs.Asks.{GivenTextWith, Asks}
 use Rattle.asked_files.specs.Questions.{PosesIt, RefusesQuestion, RefusesCertificate, GivesValues, RefusesValues}
 use Rattle.asked_files.specs.Questions.{RefusesValuesText, LacksValues}
-use Rattle.run_answers.specs.declared.status.Status.{Status}
-use Rattle.run_answers.specs.declared.status.Status.TheVariants.{Usage, ModelRefused}
-use Rattle.run_answers.specs.declared.status.Status.TheVariants.{ReadFault, WriteFault, OutOfMemory, CertificateRefused}
-use Rattle.run_answers.specs.Status.{IsAnswer}
+use Rattle.output.specs.declared.status.Status.{Status}
+use Rattle.output.specs.declared.status.Status.TheVariants.{Usage, ModelRefused}
+use Rattle.output.specs.declared.status.Status.TheVariants.{ReadFault, WriteFault, OutOfMemory, CertificateRefused}
+use Rattle.output.specs.Status.{IsAnswer}
 use Rattle.stogame_app.specs.Commands.{IsAcceptedOf, IsAcceptedFrom, IsMissing, ReadsFiles, RefusesBehind, RefusesHints}
 use Rattle.stogame_app.specs.Commands.{RefusesIt, check_paths, solve_paths}
 use Rattle.stogame_app.specs.Run.{AsksShelf, IsAcceptedOfWords, IsEnding, IsMissingOfWords, IsReadable, RefusesWords}

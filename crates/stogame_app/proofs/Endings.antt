@@ -4,20 +4,20 @@ use Rattle.std.proofs.Common.{sym, arith}
 use Rattle.text_lines.specs.Limits.{most_bytes}
 use Rattle.game_outside.specs.Outside.{Holding, GrowsBy, GrowsByPrefix}
 use Rattle.command_words.specs.Words.{Command, OfMake, AreCommand}
-use Rattle.run_refusals.specs.declared.refusal.Text.TheVariants.{Cert}
-use Rattle.run_refusals.specs.declared.refusal.Refusal.{Refusal}
-use Rattle.run_refusals.specs.declared.refusal.Refusal.TheVariants.{OfCertificate, TooLong}
-use Rattle.run_refusals.specs.InFull.{RefusalInFull}
-use Rattle.run_refusals.specs.Refusals.{refusal_text}
+use Rattle.output.specs.declared.refusal.Text.TheVariants.{Cert}
+use Rattle.output.specs.declared.refusal.Refusal.{Refusal}
+use Rattle.output.specs.declared.refusal.Refusal.TheVariants.{OfCertificate, TooLong}
+use Rattle.output.specs.InFull.{RefusalInFull}
+use Rattle.output.specs.Refusals.{refusal_text}
 use Rattle.asked_files.specs.declared.load.End.{End}
 use Rattle.asked_files.specs.declared.load.End.TheVariants as end
 use Rattle.asked_files.specs.Loading.{Takes}
-use Rattle.run_answers.specs.declared.answer.Answer.{Answer}
-use Rattle.run_answers.specs.declared.status.Status.{Status}
-use Rattle.run_answers.specs.declared.status.Status.TheVariants.{Fine, SomeFalse, SomeUndecided}
-use Rattle.run_answers.specs.declared.status.Status.TheVariants.{ReadFault, WriteFault}
+use Rattle.output.specs.declared.answer.Answer.{Answer}
+use Rattle.output.specs.declared.status.Status.{Status}
+use Rattle.output.specs.declared.status.Status.TheVariants.{Fine, SomeFalse, SomeUndecided}
+use Rattle.output.specs.declared.status.Status.TheVariants.{ReadFault, WriteFault}
 use Rattle.stogame_app.specs.Status.{IsRefusal, refused_status}
-use Rattle.run_answers.specs.Status.{IsAnswer}
+use Rattle.output.specs.Status.{IsAnswer}
 use Rattle.stogame_app.specs.Commands.{ReadsFiles, RefusesIt}
 use Rattle.stogame_app.specs.inside.Answers.{IsAnswered}
 use Rattle.stogame_app.specs.Reports.{IsReportOfWords}

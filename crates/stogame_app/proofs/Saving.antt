@@ -19,7 +19,7 @@ use Rattle.rpatl_syntax.specs.Spelling.{spelling}
 use Rattle.formula_sets.specs.Posing.{Posing, init}
 use Rattle.command_words.specs.Words.{Asked, Check, Audit, Command, OfCheck, OfAudit, OfSolve, OfMake, OfSure}
 use Rattle.command_words.specs.Words.{AreCommand, DenoteCommand}
-use Rattle.run_answers.specs.declared.status.Status.{Status}
+use Rattle.output.specs.declared.status.Status.{Status}
 use Rattle.formula_truth.specs.declared.way.Way.TheVariants.{ByRounds}
 use Rattle.asked_files.specs.Asks.{Asks}
 use Rattle.asked_files.specs.declared.problem.Paths.{Paths}
@@ -32,9 +32,9 @@ use Rattle.stogame_app.specs.Commands.{IsAcceptedOf, check_paths}
 use Rattle.stogame_app.specs.Reports.{Checks, IsReportOfWords, of_reach, of_within, of_next, of_nested, of_audit}
 use Rattle.stogame_app.specs.Reports.{of_solve, of_solve_within, of_solve_next, of_solve_nested, of_sure, of_make}
 use Rattle.stogame_app.proofs.Complete.{AreOneCommand}
-use Rattle.run_answers.proofs.Passing.{AreReadBack}
-use Rattle.run_answers.proofs.PlainParts.{spellable-plain, answered-plain}
-use Rattle.run_answers.proofs.ShortSpellings.{most_spelled, spelling-short}
+use Rattle.output.proofs.Passing.{AreReadBack}
+use Rattle.output.proofs.PlainParts.{spellable-plain, answered-plain}
+use Rattle.output.proofs.ShortSpellings.{most_spelled, spelling-short}
 use Rattle.question_reports.specs.Reports.{IsBracketReport}
 use Rattle.question_reports.proofs.ShortReports.{report-text-short, sweep-text-short, nested-text-short}
 use Rattle.question_reports.proofs.Accepting.{AreCertificates, has-posing, report-accepted}

@@ -7,7 +7,7 @@ use Rattle.formula_reader.specs.Formula.{Tree}
 use Rattle.formula_sets.specs.Posing.{Posing}
 use Rattle.command_words.specs.Words.{Asked, Solve, Audit, Command, OfAudit, OfSolve}
 use Rattle.command_words.specs.Words.{AreCommand}
-use Rattle.run_answers.specs.declared.status.Status.{Status}
+use Rattle.output.specs.declared.status.Status.{Status}
 use Rattle.asked_files.specs.Asks.{Asks}
 use Rattle.asked_files.specs.declared.problem.Paths.{Paths}
 use Rattle.asked_files.specs.declared.problem.Paths.TheVariants.{Any, Unbounded}
@@ -18,9 +18,9 @@ use Rattle.stogame_app.specs.Commands.{IsAcceptedOf, solve_paths}
 use Rattle.stogame_app.specs.Reports.{Solves, IsReportOfWords}
 use Rattle.stogame_app.specs.Reports.{of_solve, of_solve_within, of_solve_next, of_solve_nested}
 use Rattle.stogame_app.proofs.Complete.{AreOneCommand}
-use Rattle.run_answers.proofs.Passing.{AreReadBack}
-use Rattle.run_answers.proofs.PlainParts.{spellable-plain, answered-plain}
-use Rattle.run_answers.proofs.ShortSpellings.{spelling-short}
+use Rattle.output.proofs.Passing.{AreReadBack}
+use Rattle.output.proofs.PlainParts.{spellable-plain, answered-plain}
+use Rattle.output.proofs.ShortSpellings.{spelling-short}
 use Rattle.question_reports.specs.Solved.{IsSolved}
 use Rattle.question_reports.proofs.ShortReports.{nested-text-short, solved-text-short, sweep-text-short}
 use Rattle.question_reports.proofs.Accepting.{AreCertificates, solved-accepted}

@@ -7,7 +7,7 @@ use Rattle.plan_text.specs.declared.plan.Plan.{Plan}
 use Rattle.certificate_audit.specs.Accepted.{IsAccepted}
 use Rattle.command_words.specs.Words.{Check, Audit, Solve, Command, OfCheck, OfAudit, OfSolve, OfMake, OfSure}
 use Rattle.command_words.specs.Words.{AreInRange, IsMakeInRange}
-use Rattle.run_refusals.specs.declared.refusal.Refusal.{Refusal}
+use Rattle.output.specs.declared.refusal.Refusal.{Refusal}
 use Rattle.asked_files.specs.declared.problem.Paths.{Paths}
 use Rattle.asked_files.specs.declared.problem.Paths.TheVariants.{Any, Unbounded, Reaching}
 use Rattle.asked_files.specs.Problems.{Problem, posing_in, states_of}

@@ -14,7 +14,7 @@ use Rattle.asked_files.specs.Problems.{Problem, OfReach, OfWithin, OfNext, OfNes
 use Rattle.asked_files.specs.Sources.{SourceWith}
 use Rattle.asked_files.specs.Asks.{GivenTextWith}
 use Rattle.asked_files.specs.Questions.{PosesIt, GivesValues}
-use Rattle.run_answers.specs.declared.status.Status.{Status}
+use Rattle.output.specs.declared.status.Status.{Status}
 use Rattle.formula_truth.specs.declared.way.Way.TheVariants.{ByRounds, BySolver}
 use Rattle.question_reports.specs.Reports.{IsBracketReport}
 use Rattle.question_reports.specs.Sweeps.{IsWithinReport, IsNextReport}

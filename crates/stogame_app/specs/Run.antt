@@ -4,19 +4,19 @@ use Rattle.text_lines.specs.Limits.{most_bytes}
 use Rattle.game_outside.specs.Limits.{piece_size}
 use Rattle.game_outside.specs.Outside.{Holding, Rose, KeepsShelf, GrowsBy, GrowsByPrefix}
 use Rattle.command_words.specs.Words.{Command, AreCommand, AreNoCommand}
-use Rattle.run_refusals.specs.declared.refusal.Text.{Text}
-use Rattle.run_refusals.specs.declared.refusal.Refusal.{Refusal}
-use Rattle.run_refusals.specs.declared.refusal.Refusal.TheVariants.{TooLong}
-use Rattle.run_refusals.specs.Caused.{IsCaused}
-use Rattle.run_refusals.specs.InFull.{RefusalInFull}
-use Rattle.run_refusals.specs.Refusals.{refusal_text, usage_text}
+use Rattle.output.specs.declared.refusal.Text.{Text}
+use Rattle.output.specs.declared.refusal.Refusal.{Refusal}
+use Rattle.output.specs.declared.refusal.Refusal.TheVariants.{TooLong}
+use Rattle.output.specs.Caused.{IsCaused}
+use Rattle.output.specs.InFull.{RefusalInFull}
+use Rattle.output.specs.Refusals.{refusal_text, usage_text}
 use Rattle.asked_files.specs.declared.load.End.{End}
 use Rattle.asked_files.specs.declared.load.End.TheVariants as end
 use Rattle.asked_files.specs.Sources.{IfKnown}
-use Rattle.run_answers.specs.declared.answer.Answer.{Answer}
-use Rattle.run_answers.specs.declared.status.Status.{Status}
-use Rattle.run_answers.specs.declared.status.Status.TheVariants.{Fine, SomeFalse, SomeUndecided, Usage, ModelRefused}
-use Rattle.run_answers.specs.declared.status.Status.TheVariants.{ReadFault, WriteFault, OutOfMemory, CertificateRefused}
+use Rattle.output.specs.declared.answer.Answer.{Answer}
+use Rattle.output.specs.declared.status.Status.{Status}
+use Rattle.output.specs.declared.status.Status.TheVariants.{Fine, SomeFalse, SomeUndecided, Usage, ModelRefused}
+use Rattle.output.specs.declared.status.Status.TheVariants.{ReadFault, WriteFault, OutOfMemory, CertificateRefused}
 use Rattle.stogame_app.specs.Status.{refused_status}
 use Rattle.stogame_app.specs.Commands.{IsAcceptedFrom, IsMissing, ReadsFiles, RefusesIt}
 use Rattle.stogame_app.specs.Reports.{IsReportOfWords}

@@ -1,10 +1,10 @@
 -- These are the statuses of a report of `sure` and of a refusal.
 use Rattle.std.specs.Prelude.{◌≡◌, ◌⊎◌, Bool, if◌then◌else◌}
-use Rattle.run_refusals.specs.declared.refusal.Refusal.{Refusal}
-use Rattle.run_refusals.specs.declared.refusal.Refusal.TheVariants.{OfCertificate, TooLong}
-use Rattle.run_refusals.specs.declared.refusal.Text.TheVariants.{Cert}
-use Rattle.run_answers.specs.declared.status.Status.{Status}
-use Rattle.run_answers.specs.declared.status.Status.TheVariants.{Fine, SomeFalse, ModelRefused, CertificateRefused}
+use Rattle.output.specs.declared.refusal.Refusal.{Refusal}
+use Rattle.output.specs.declared.refusal.Refusal.TheVariants.{OfCertificate, TooLong}
+use Rattle.output.specs.declared.refusal.Text.TheVariants.{Cert}
+use Rattle.output.specs.declared.status.Status.{Status}
+use Rattle.output.specs.declared.status.Status.TheVariants.{Fine, SomeFalse, ModelRefused, CertificateRefused}
 
 -- The status is `Fine` if every initial state is sure, and else `SomeFalse`.
 abbrev pub sure_status : Bool → Status

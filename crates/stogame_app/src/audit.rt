@@ -11,8 +11,8 @@ ghost use Rattle.stogame_app.specs.inside.Answers.{IsAnswered};
 use asked_files::{End, Loaded, Paths, load_certificate, load_model, pose_loaded};
 use command_words::AuditWords;
 use game_outside::Shelf;
+use output::Answer;
 use question_reports::audit_report;
-use run_answers::Answer;
 use std::alloc::Global;
 
 /// Answers `audit` with its report, or says why there is none.

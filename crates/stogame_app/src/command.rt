@@ -4,7 +4,7 @@ ghost use Rattle.std.specs.Prelude.{◌≡◌, ◌⊎◌, Some, true, map};
 ghost use Rattle.std.specs.String.{string_bytes};
 ghost use Rattle.game_outside.specs.Outside.{Holding, Rose};
 ghost use Rattle.command_words.specs.Words.{command_of};
-ghost use Rattle.run_answers.specs.Status.{IsAnswer};
+ghost use Rattle.output.specs.Status.{IsAnswer};
 ghost use Rattle.stogame_app.specs.Commands.{IsInRange};
 ghost use Rattle.stogame_app.specs.inside.Answers.{IsAnswered};
 ghost use Rattle.stogame_app.specs.Run.{AsksShelf, IsAcceptedOfWords, IsEnding, IsReadable};
@@ -21,7 +21,7 @@ use certificate_audit::laws::audits_have_one_answer;
 use command_words::laws::words_denote_one_command;
 use command_words::{CommandWords, read_words};
 use game_outside::{Gate, Shelf, Sink};
-use run_answers::{Answer, Status};
+use output::{Answer, Status};
 use std::alloc::Global;
 use std::thread::Threads;
 

@@ -4,13 +4,12 @@ ghost use Rattle.std.specs.Prelude.{◌≡◌, ◌≢◌, ◌⊎◌, ℕ, List, 
 ghost use Rattle.game_outside.specs.Outside.{Holding, Rose, GrowsBy, GrowsByPrefix};
 ghost use Rattle.command_words.specs.Words.{AreNoCommand};
 ghost use Rattle.stogame_app.specs.Status.{refused_status};
-ghost use Rattle.run_answers.specs.Status.{IsAnswer};
+ghost use Rattle.output.specs.Status.{IsAnswer};
 ghost use Rattle.stogame_app.specs.Run.{AnswersWords, IsEnding, RefusesWords};
 
 use asked_files::End;
 use game_outside::{Sink, write_all};
-use run_answers::{Answer, Status};
-use run_refusals::{Refusal, Text, refusal_line, usage_line};
+use output::{Answer, Refusal, Status, Text, refusal_line, usage_line};
 use std::alloc::Global;
 
 /// Writes a text, and returns the status if that succeeds.

@@ -13,8 +13,8 @@ pub mod saved;
 
 ghost use Rattle.std.specs.Prelude.{ℕ, List, Option};
 ghost use Rattle.game_outside.specs.Outside.{Holding};
-ghost use Rattle.run_answers.specs.Status.{IsAnswer};
-ghost use Rattle.run_answers.specs.declared.status.Status.{Status};
+ghost use Rattle.output.specs.Status.{IsAnswer};
+ghost use Rattle.output.specs.declared.status.Status.{Status};
 ghost use Rattle.stogame_app.specs.Reports.{IsReportOfWords};
 ghost use Rattle.stogame_app.specs.Run.{IsEnding, IsRefusalOfWords, Writes};
 ghost use Rattle.stogame_app.specs.Status.{IsRefusal};

@@ -18,4 +18,4 @@ mod solve;
 mod sure;
 
 pub use command::run;
-pub use run_answers::Status;
+pub use output::Status;

@@ -3,14 +3,14 @@
 ghost use Rattle.std.specs.Prelude.{◌≡◌, ℕ, List, Option, Err, IfOk};
 ghost use Rattle.game_outside.specs.Outside.{Holding};
 ghost use Rattle.command_words.specs.Words.{AreCommand, IsMakeInRange, OfMake, make_of};
-ghost use Rattle.run_answers.specs.Status.{IsAnswer};
+ghost use Rattle.output.specs.Status.{IsAnswer};
 ghost use Rattle.stogame_app.specs.Reports.{IsReportOfWords};
 
 use asked_files::End;
 use command_words::MakeWords;
 use game_outside::Gate;
+use output::Answer;
 use question_reports::drawn_report;
-use run_answers::Answer;
 use std::alloc::Global;
 use std::thread::Threads;
 

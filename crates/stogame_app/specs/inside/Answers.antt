@@ -3,15 +3,15 @@ use Rattle.std.specs.Prelude.{◌≡◌, ◌≤◌, ℕ, List, Bool, true, Optio
 use Rattle.text_lines.specs.Limits.{most_bytes}
 use Rattle.game_outside.specs.Outside.{Holding, Rose, KeepsShelf}
 use Rattle.command_words.specs.Words.{Asked, Command, AreCommand}
-use Rattle.run_refusals.specs.declared.refusal.Refusal.{Refusal}
+use Rattle.output.specs.declared.refusal.Refusal.{Refusal}
 use Rattle.asked_files.specs.declared.load.End.{End}
 use Rattle.asked_files.specs.declared.load.End.TheVariants.{ReadFault, Refused}
 use Rattle.asked_files.specs.Loading.{ReadsNothing, EndsCaused, Takes}
 use Rattle.asked_files.specs.Posed.{Reading}
 use Rattle.asked_files.specs.Questions.{Reads}
 use Rattle.asked_files.specs.Sources.{IfKnown}
-use Rattle.run_answers.specs.declared.answer.Answer.{Answer}
-use Rattle.run_answers.specs.Status.{IsAnswer}
+use Rattle.output.specs.declared.answer.Answer.{Answer}
+use Rattle.output.specs.Status.{IsAnswer}
 use Rattle.stogame_app.specs.Commands.{IsMissing, ReadsFiles, RefusesIt}
 use Rattle.stogame_app.specs.Reports.{IsReportOfWords}
 

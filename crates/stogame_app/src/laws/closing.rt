@@ -4,7 +4,7 @@ ghost use Rattle.std.specs.Prelude.{ℕ, ◌*◌, ◌≤◌, List, slice_index};
 ghost use Rattle.game_model.specs.Query.{Query};
 ghost use Rattle.formula_reader.specs.Formula.{Tree};
 ghost use Rattle.command_words.specs.Words.{Check};
-ghost use Rattle.run_answers.specs.declared.status.Status.{Status};
+ghost use Rattle.output.specs.declared.status.Status.{Status};
 ghost use Rattle.strategies.specs.Stopping.{IsStopping, IsWithin};
 ghost use Rattle.question_reports.specs.Reports.{IsBracketReport};
 

@@ -2,8 +2,8 @@ use Rattle.std.proofs.Common.{List, ℕ, sym, subst}
 use Rattle.std.proofs.lemmas.Result.{IfOk-weaker, err_from_is_err_and}
 use Rattle.certificate_audit.specs.Accepted.{IsAccepted}
 use Rattle.certificate_audit.specs.Refused.{IsRefused}
-use Rattle.run_refusals.specs.declared.refusal.Refusal.{Refusal}
-use Rattle.run_refusals.specs.declared.refusal.Text.TheVariants.{Cert}
+use Rattle.output.specs.declared.refusal.Refusal.{Refusal}
+use Rattle.output.specs.declared.refusal.Text.TheVariants.{Cert}
 use Rattle.asked_files.specs.Questions.{RefusesCertificate}
 use Rattle.asked_files.proofs.HeldTexts.{text_too_long, text_not_held, text_is_so, of_text}
 use Rattle.asked_files.proofs.certificate.load_certificate.Goals as goal

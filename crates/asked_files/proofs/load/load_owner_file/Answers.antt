@@ -1,8 +1,8 @@
 use Rattle.std.proofs.Common.{Err, ap, sym, ◌∙◌}
 use Rattle.std.proofs.lemmas.Result.{err_from_is_err_and}
 use Rattle.label_lines.specs.Texts.{owners_of}
-use Rattle.run_refusals.specs.declared.refusal.Text.TheVariants.{Own}
-use Rattle.run_refusals.specs.declared.refusal.Refusal.TheVariants.{OfOwn}
+use Rattle.output.specs.declared.refusal.Text.TheVariants.{Own}
+use Rattle.output.specs.declared.refusal.Refusal.TheVariants.{OfOwn}
 use Rattle.asked_files.proofs.FilesLoaded.{file_read, file_refused, file_unread}
 use Rattle.asked_files.proofs.load.load_owner_file.Goals as goal
 

@@ -1,8 +1,8 @@
 use Rattle.std.proofs.Common.{◌≡◌, List, ℕ, Some, None, sym, subst}
 use Rattle.std.proofs.lemmas.Result.{IfOk-weaker, err_from_is_err_and}
 use Rattle.values_reader.specs.Faults.{fault_of}
-use Rattle.run_refusals.specs.declared.refusal.Refusal.{Refusal}
-use Rattle.run_refusals.specs.declared.refusal.Text.TheVariants.{Values}
+use Rattle.output.specs.declared.refusal.Refusal.{Refusal}
+use Rattle.output.specs.declared.refusal.Text.TheVariants.{Values}
 use Rattle.asked_files.specs.Questions.{RefusesValuesText}
 use Rattle.asked_files.proofs.HeldTexts.{text_too_long, text_not_held, text_is_so, of_text}
 use Rattle.asked_files.proofs.values.load_values_file.Goals as goal

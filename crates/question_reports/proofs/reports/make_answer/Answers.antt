@@ -1,5 +1,5 @@
 use Rattle.std.proofs.Common.{◌≡◌, Bool, map, subst}
-use Rattle.run_answers.specs.Printed.{line_of, status_of}
+use Rattle.output.specs.Printed.{line_of, status_of}
 use Rattle.question_reports.proofs.reports.make_answer.Goals as goal
 
 pub returns-clause-status : goal.returns-clause-status

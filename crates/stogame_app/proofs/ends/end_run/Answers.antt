@@ -2,8 +2,8 @@ use Rattle.std.proofs.Common.{inl, List, ℕ, Result, subst}
 use Rattle.std.proofs.lemmas.Result.{IfOk-at_ok}
 use Rattle.game_outside.specs.Outside.{GrowsBy, GrowsByPrefix}
 use Rattle.asked_files.specs.declared.load.End.{End}
-use Rattle.run_answers.specs.declared.answer.Answer.{Answer}
-use Rattle.run_answers.specs.Status.{IsAnswer}
+use Rattle.output.specs.declared.answer.Answer.{Answer}
+use Rattle.output.specs.Status.{IsAnswer}
 use Rattle.stogame_app.specs.Run.{AnswersWords}
 use Rattle.stogame_app.proofs.Endings.{report_ends, said_ends}
 use Rattle.stogame_app.proofs.ends.end_run.Goals as goal

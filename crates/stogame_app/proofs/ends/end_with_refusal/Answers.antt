@@ -1,7 +1,7 @@
 use Rattle.std.proofs.Common.{◌∙◌, inl, inr, List, ℕ, refl, subst, sym}
 use Rattle.game_outside.specs.Outside.{GrowsBy, GrowsByPrefix}
-use Rattle.run_refusals.specs.Refusals.{refusal_text}
-use Rattle.run_answers.specs.declared.status.Status.{Status}
+use Rattle.output.specs.Refusals.{refusal_text}
+use Rattle.output.specs.declared.status.Status.{Status}
 use Rattle.stogame_app.specs.Status.{refused_status}
 use Rattle.stogame_app.specs.Run.{IsEnding}
 use Rattle.stogame_app.proofs.Endings.{refusal_ends, said_ends}

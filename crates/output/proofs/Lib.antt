@@ -1,0 +1,11 @@
+pub mod Labelled
+pub mod NoLineFeed
+pub mod OneCause
+pub mod OneOutput
+pub mod OneRefusal
+pub mod Passing
+pub mod Places
+pub mod PlainParts
+pub mod ShortLines
+pub mod ShortParts
+pub mod ShortSpellings

@@ -1,0 +1,5 @@
+use Rattle.output.proofs.OneRefusal.{refusal-one}
+use Rattle.output.proofs.laws.refusals_have_one_reading.Goals as goal
+
+pub returns : goal.returns
+returns c = refusal-one

@@ -1,0 +1,6 @@
+pub mod Caused
+pub mod InFull
+pub mod Outputs
+pub mod Printed
+pub mod Refusals
+pub mod Status

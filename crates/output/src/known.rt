@@ -1,0 +1,53 @@
+//! This module has what is true of every refusal, because its types bound its numbers.
+
+ghost use Rattle.output.specs.InFull.{IsInFull, ChoiceInFull, TraInFull, LabInFull, CertificateInFull};
+
+use crate::refusal::Refusal;
+use certificate_audit::AuditFault;
+use distributions::ChoiceFault;
+use label_lines::LabCause;
+use transition_lines::TraCause;
+
+fn known_of_number(number: u32)
+    ensures { IsInFull number }
+{}
+
+fn known_of_choice(fault: ChoiceFault)
+    ensures { ChoiceInFull fault }
+{}
+
+fn known_of_tra(cause: TraCause)
+    ensures { TraInFull cause }
+{}
+
+fn known_of_lab(cause: LabCause)
+    ensures { LabInFull cause }
+{}
+
+fn known_of_certificate(fault: AuditFault)
+    ensures { CertificateInFull fault }
+{}
+
+impl Refusal {
+    ghost use Rattle.output.specs.InFull.{RefusalInFull};
+
+    /// Tells a proof that the numbers of a refusal are written in full. It does nothing.
+    pub fn known(&self)
+        ensures { RefusalInFull self.now }
+    {
+        match self {
+            Refusal::OfTra(fault) => {
+                known_of_number(fault.line);
+                known_of_tra(fault.cause);
+            }
+            Refusal::OfLab(fault) | Refusal::OfOwn(fault) => {
+                known_of_number(fault.line);
+                known_of_lab(fault.cause);
+            }
+            Refusal::OfFormula(fault) => known_of_number(fault.place),
+            Refusal::OfCertificate(fault) => known_of_certificate(*fault),
+            Refusal::OfValues(fault) => known_of_number(fault.line),
+            Refusal::OfQuestion(_) | Refusal::WrongKind | Refusal::TooLong(_) => {}
+        }
+    }
+}

@@ -1,3 +1,0 @@
-pub mod Caused
-pub mod InFull
-pub mod Refusals
