@@ -1,4 +1,4 @@
--- Parts whose states reach each other, less the states that have no inner choice, are end components.
+-- Parts whose states reach each other, less the states that have no internal choice, are end components.
 use Rattle.std.proofs.Common.{◌≡◌, ◌≢◌, ℕ, zero, suc, ◌+◌, ◌-◌, ◌<◌, ◌≤◌, List, arith, sym, ◌∙◌, subst}
 use Rattle.std.proofs.Common.{inl, inr, Option}
 use Rattle.std.specs.Prelude.{slice_index}
@@ -6,18 +6,18 @@ use Rattle.std.proofs.lemmas.Bool.{cases_eq}
 use Rattle.game_model.specs.Query.{Query, states}
 use Rattle.trap_sets.specs.Moves.{Walk}
 use Rattle.trap_sets.specs.inside.Each.{IsEach}
-use Rattle.trap_sets.specs.inside.Parts.{IsInner, IsStep, Comes, IsRooted}
+use Rattle.trap_sets.specs.inside.Parts.{IsInternal, IsStep, Comes, IsRooted}
 use Rattle.trap_sets.specs.inside.Settled.{KeepsEnds, AreJoined, AreSettled, IsKept}
-use Rattle.trap_sets.proofs.Keeping.{ends-inner}
+use Rattle.trap_sets.proofs.Keeping.{ends-internal}
 use Rattle.trap_sets.proofs.Zeros.{within}
 
--- a state that comes to another has an inner choice
+-- a state that comes to another has an internal choice
 first-step : (q : Query) (replies : List (Option ℕ)) (part : List ℕ) (n s t : ℕ) → Walk (IsStep q replies part) n s t
-    → s ≢ t → (c : ℕ) × IsInner q replies part s c
+    → s ≢ t → (c : ℕ) × IsInternal q replies part s c
 first-step q replies part zero s t walk other = absurd (other walk)
 first-step q replies part (suc n) s t walk other =
     let step : IsStep q replies part s walk.0 = walk.1 in
-    (step.choice, step.inner)
+    (step.choice, step.internal)
 
 module _ (q : Query) (replies : List (Option ℕ)) (class part : List ℕ) (h : KeepsEnds q replies class)
     (rooted : IsRooted class) (joined : AreJoined q replies class)
@@ -31,8 +31,8 @@ module _ (q : Query) (replies : List (Option ℕ)) (class part : List ℕ) (h : 
     | inr kept ↦ kept.0
   ]
 
-  inner-was : (s : ℕ) → slice_index part s ≢ 0 → (c : ℕ) × IsInner q replies class s c
-  inner-was s some = elim (k.each s (inside s some)) [
+  internal-was : (s : ℕ) → slice_index part s ≢ 0 → (c : ℕ) × IsInternal q replies class s c
+  internal-was s some = elim (k.each s (inside s some)) [
     | inl lost ↦ absurd (some lost.0)
     | inr kept ↦ kept.1
   ]
@@ -48,8 +48,8 @@ module _ (q : Query) (replies : List (Option ℕ)) (class part : List ℕ) (h : 
         | inr kept ↦ λ none. there (sym kept.0 ∙ none)
         | inl lost ↦ elim (cases_eq t s) [
           | inl here ↦
-              let one = inner-was s some in
-              absurd (lost.1 one.0 (subst (λ u. IsInner q replies class u one.0) (sym here) one.1))
+              let one = internal-was s some in
+              absurd (lost.1 one.0 (subst (λ u. IsInternal q replies class u one.0) (sym here) one.1))
           | inr other ↦
               let comes : Comes q replies class t s = joined t s there same in
               let one = first-step q replies class comes.0 t s comes.1 other in
@@ -57,9 +57,9 @@ module _ (q : Query) (replies : List (Option ℕ)) (class part : List ℕ) (h : 
         ]
       ]
 
-  kept-number : (s : ℕ) (c : ℕ) → s < states q → IsInner q replies class s c → slice_index part s ≡ slice_index class s
-  kept-number s c ls inner = elim (k.each s ls) [
-    | inl lost ↦ absurd (lost.1 c inner)
+  kept-number : (s : ℕ) (c : ℕ) → s < states q → IsInternal q replies class s c → slice_index part s ≡ slice_index class s
+  kept-number s c ls internal = elim (k.each s ls) [
+    | inl lost ↦ absurd (lost.1 c internal)
     | inr kept ↦ kept.0
   ]
 
@@ -75,14 +75,14 @@ module _ (q : Query) (replies : List (Option ℕ)) (class part : List ℕ) (h : 
       let now : IsStep q replies part s walk.0 = record {
         choice = step.choice;
         state = step.state;
-        inner = record {
+        internal = record {
           some = some;
-          cut = step.inner.cut;
-          stays = λ u leads. stays-now s u some (step.inner.stays u leads);
+          cut = step.internal.cut;
+          stays = λ u leads. stays-now s u some (step.internal.stays u leads);
         };
         leads = step.leads;
       } in
-      (walk.0, now, walk-now n walk.0 t (whole s walk.0 some (step.inner.stays walk.0 step.leads)) walk.2)
+      (walk.0, now, walk-now n walk.0 t (whole s walk.0 some (step.internal.stays walk.0 step.leads)) walk.2)
 
   pub AreSettled-kept : AreSettled q replies part
   AreSettled-kept = record {
@@ -92,15 +92,15 @@ module _ (q : Query) (replies : List (Option ℕ)) (class part : List ℕ) (h : 
       kept = λ member listed component s in' none.
           let one = component.chosen s in' in
           h.kept member listed component s in' (sym (kept-number s one.0 (component.inside s in')
-          (ends-inner q replies class member listed s one.0 h component in' one.1 one.2)) ∙ none);
+          (ends-internal q replies class member listed s one.0 h component in' one.1 one.2)) ∙ none);
       joined = λ member listed component s t in' in''.
           let one = component.chosen s in' in
           let two = component.chosen t in'' in
           kept-number s one.0 (component.inside s in')
-          (ends-inner q replies class member listed s one.0 h component in' one.1 one.2)
+          (ends-internal q replies class member listed s one.0 h component in' one.1 one.2)
           ∙ h.joined member listed component s t in' in''
           ∙ sym (kept-number t two.0 (component.inside t in'')
-          (ends-inner q replies class member listed t two.0 h component in'' two.1 two.2));
+          (ends-internal q replies class member listed t two.0 h component in'' two.1 two.2));
     };
     rooted = record {
       root = λ s some.
@@ -113,8 +113,8 @@ module _ (q : Query) (replies : List (Option ℕ)) (class part : List ℕ) (h : 
         | inr some ↦ let e : slice_index part s ≤ s + 1 = omega (arith, refines s some, rooted.least s) in e
       ];
     };
-    inner = λ s ls some.
-        let one = inner-was s some in (
+    internal = λ s ls some.
+        let one = internal-was s some in (
           one.0,
           record { some = some; cut = one.1.cut; stays = λ t leads. stays-now s t some (one.1.stays t leads) },
         );

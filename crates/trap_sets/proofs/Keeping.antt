@@ -8,25 +8,25 @@ use Rattle.game_model.specs.Game.{choices_of}
 use Rattle.game_model.specs.Query.{Query, states}
 use Rattle.trap_sets.specs.Ends.{IsMove, IsEndComponent}
 use Rattle.trap_sets.specs.Moves.{Leads, Walk, Reach}
-use Rattle.trap_sets.specs.inside.Parts.{IsInner, IsStep, IsRooted}
+use Rattle.trap_sets.specs.inside.Parts.{IsInternal, IsStep, IsRooted}
 use Rattle.trap_sets.specs.inside.Settled.{KeepsEnds}
 use Rattle.trap_sets.specs.inside.Each.{IsEach}
 use Rattle.trap_sets.specs.inside.Naming.{IsClass, IsNaming}
 use Rattle.trap_sets.proofs.Zeros.{within}
 
--- the listed choices of an end component are inner
-pub ends-inner : (q : Query) (replies : List (Option ℕ)) (part : List ℕ) (member : ℕ → Bool) (listed : ℕ → ℕ → Bool)
+-- the listed choices of an end component are internal
+pub ends-internal : (q : Query) (replies : List (Option ℕ)) (part : List ℕ) (member : ℕ → Bool) (listed : ℕ → ℕ → Bool)
     (s c : ℕ) → KeepsEnds q replies part → IsEndComponent q replies member listed → member s ≡ true
-    → c < length (choices_of q.game s) → listed s c ≡ true → IsInner q replies part s c
-ends-inner q replies part member listed s c h component in' lc chosen = record {
+    → c < length (choices_of q.game s) → listed s c ≡ true → IsInternal q replies part s c
+ends-internal q replies part member listed s c h component in' lc chosen = record {
   some = h.kept member listed component s in';
   cut = component.cut s c in' lc chosen;
   stays = λ t leads. h.joined member listed component t s (component.closed s c t in' lc chosen leads) in';
 }
 
--- a state that has no inner choice loses its part
+-- a state that has no internal choice loses its part
 module _ (q : Query) (replies : List (Option ℕ)) (part : List ℕ) (s : ℕ) (inside : s < states q)
-    (h : KeepsEnds q replies part) (none : (c : ℕ) → ¬ IsInner q replies part s c) where
+    (h : KeepsEnds q replies part) (none : (c : ℕ) → ¬ IsInternal q replies part s c) where
   gone-now : slice_index (set part s 0) s ≡ 0
   gone-now = get_or-set_same part s 0 0 (omega (arith, inside, h.many))
 
@@ -38,7 +38,7 @@ module _ (q : Query) (replies : List (Option ℕ)) (part : List ℕ) (s : ℕ) (
   outside member listed component t in' same =
       let here : member s ≡ true = subst (λ u. member u ≡ true) same in' in
       let one = component.chosen s here in
-      none one.0 (ends-inner q replies part member listed s one.0 h component here one.1 one.2)
+      none one.0 (ends-internal q replies part member listed s one.0 h component here one.1 one.2)
 
   pub KeepsEnds-without : KeepsEnds q replies (set part s 0)
   KeepsEnds-without = record {
@@ -53,32 +53,32 @@ module _ (q : Query) (replies : List (Option ℕ)) (part : List ℕ) (s : ℕ) (
   }
 
 module _ (q : Query) (replies : List (Option ℕ)) (part : List ℕ) (h : KeepsEnds q replies part) where
-  -- a walk of listed moves within an end component is one of inner moves
-  pub walk-inner : (member : ℕ → Bool) (listed : ℕ → ℕ → Bool) → IsEndComponent q replies member listed → (n s t : ℕ)
+  -- a walk of listed moves within an end component is one of internal moves
+  pub walk-internal : (member : ℕ → Bool) (listed : ℕ → ℕ → Bool) → IsEndComponent q replies member listed → (n s t : ℕ)
       → member s ≡ true → Walk (IsMove q listed) n s t → Walk (IsStep q replies part) n s t
-  walk-inner member listed component zero s t in' walk = walk
-  walk-inner member listed component (suc n) s t in' walk =
+  walk-internal member listed component zero s t in' walk = walk
+  walk-internal member listed component (suc n) s t in' walk =
       let move : IsMove q listed s walk.0 = walk.1 in
       let step : IsStep q replies part s walk.0 = record {
         choice = move.choice;
         state = component.inside s in';
-        inner = ends-inner q replies part member listed s move.choice h component in' move.inside move.chosen;
+        internal = ends-internal q replies part member listed s move.choice h component in' move.inside move.chosen;
         leads = move.leads;
       } in (
         walk.0,
         step,
-        walk-inner member listed component n walk.0 t
+        walk-internal member listed component n walk.0 t
             (component.closed s move.choice walk.0 in' move.inside move.chosen move.leads) walk.2,
       )
 
   -- of components in the order of play one has all states of an end component
-  module _ (component : List ℕ) (order : (s d t : ℕ) → s < states q → IsInner q replies part s d → Leads q s d t
+  module _ (component : List ℕ) (order : (s d t : ℕ) → s < states q → IsInternal q replies part s d → Leads q s d t
       → slice_index component t ≤ slice_index component s) where
     walk-falls : (n s t : ℕ) → Walk (IsStep q replies part) n s t → slice_index component t ≤ slice_index component s
     walk-falls zero s t walk = omega (arith, ap (slice_index component) walk)
     walk-falls (suc n) s t walk =
         let step : IsStep q replies part s walk.0 = walk.1 in
-        omega (arith, walk-falls n walk.0 t walk.2, order s step.choice walk.0 step.state step.inner step.leads)
+        omega (arith, walk-falls n walk.0 t walk.2, order s step.choice walk.0 step.state step.internal step.leads)
 
     pub KeepsEnds-classes : (class : List ℕ)
         → IsEach (λ s. IsClass (slice_index part s) (slice_index component s)) class (states q)
@@ -99,8 +99,8 @@ module _ (q : Query) (replies : List (Option ℕ)) (part : List ℕ) (h : KeepsE
               let around : Reach (IsMove q listed) t s = ends.joined t s in'' in' in
               omega (
                 arith,
-                walk-falls forth.0 s t (walk-inner member listed ends forth.0 s t in' forth.1),
-                walk-falls around.0 t s (walk-inner member listed ends around.0 t s in'' around.1),
+                walk-falls forth.0 s t (walk-internal member listed ends forth.0 s t in' forth.1),
+                walk-falls around.0 t s (walk-internal member listed ends around.0 t s in'' around.1),
                 counted s (ends.inside s in') (h.kept member listed ends s in'),
                 counted t (ends.inside t in'') (h.kept member listed ends t in''),
               );

@@ -1,4 +1,4 @@
--- Whether a choice is inner, as a test.
+-- Whether a choice is internal, as a test.
 use Rattle.std.proofs.Common.{◌≡◌, ◌≢◌, ℕ, zero, suc, ◌<◌, Bool, true, false, List, length, get_or, refl, ap, Option}
 use Rattle.std.proofs.Common.{Some, None}
 use Rattle.std.specs.Prelude.{slice_index, slice_index_or, ◌==◌, ◌&&◌}
@@ -12,7 +12,7 @@ use Rattle.game_model.specs.Game.{choices_of, choice_of, destinations}
 use Rattle.game_model.specs.Query.{Query, side_at}
 use Rattle.trap_sets.specs.Moves.{Walk}
 use Rattle.trap_sets.specs.Ends.{IsMove, numbered}
-use Rattle.trap_sets.specs.inside.Parts.{IsInner, IsStep}
+use Rattle.trap_sets.specs.inside.Parts.{IsInternal, IsStep}
 
 cut-test : Side → Option ℕ → ℕ → Bool
 cut-test Max reply c = true
@@ -40,18 +40,18 @@ module _ (q : Query) (replies : List (Option ℕ)) (part : List ℕ) (s c : ℕ)
   abbrev to : List ℕ
   to = destinations (choice_of q.game s c).edges
 
-  pub inner-listed : IsInner q replies part s c → listed-by q replies part s c ≡ true
+  pub internal-listed : IsInternal q replies part s c → listed-by q replies part s c ≡ true
   unfolding listed-by
-  inner-listed h = and_from (cut-test (side_at q s) (slice_index_or replies s None) c) _
+  internal-listed h = and_from (cut-test (side_at q s) (slice_index_or replies s None) c) _
       (cut-test-true (side_at q s) (slice_index_or replies s None) c h.cut.replied)
       (list_all-from_AllPass (numbered part (slice_index part s)) to (λ k d l.
       eq-eqb (slice_index part (get_or to k d)) (slice_index part s)
       (h.stays (get_or to k d) (Contains-get_or to k d l))))
 
-  pub listed-inner : slice_index part s ≢ 0 → c < length (choices_of q.game s) → listed-by q replies part s c ≡ true
-      → IsInner q replies part s c
+  pub listed-internal : slice_index part s ≢ 0 → c < length (choices_of q.game s) → listed-by q replies part s c ≡ true
+      → IsInternal q replies part s c
   unfolding listed-by
-  listed-inner some lc h =
+  listed-internal some lc h =
       let both = and_parts (cut-test (side_at q s) (slice_index_or replies s None) c) _ h in record {
         some = some;
         cut = record { inside = lc; replied = cut-test-from (side_at q s) (slice_index_or replies s None) c both.0 };
@@ -60,7 +60,7 @@ module _ (q : Query) (replies : List (Option ℕ)) (part : List ℕ) (s c : ℕ)
             (AllPass-from_list_all (numbered part (slice_index part s)) to both.1) leads);
       }
 
--- a walk of inner moves is one of listed moves
+-- a walk of internal moves is one of listed moves
 pub walk-listed : (q : Query) (replies : List (Option ℕ)) (part : List ℕ) (n s t : ℕ)
     → Walk (IsStep q replies part) n s t → Walk (IsMove q (listed-by q replies part)) n s t
 walk-listed q replies part zero s t walk = walk
@@ -68,8 +68,8 @@ walk-listed q replies part (suc n) s t walk =
     let step : IsStep q replies part s walk.0 = walk.1 in
     let move : IsMove q (listed-by q replies part) s walk.0 = record {
       choice = step.choice;
-      inside = step.inner.cut.inside;
-      chosen = inner-listed q replies part s step.choice step.inner;
+      inside = step.internal.cut.inside;
+      chosen = internal-listed q replies part s step.choice step.internal;
       leads = step.leads;
     } in
     (walk.0, move, walk-listed q replies part n walk.0 t walk.2)

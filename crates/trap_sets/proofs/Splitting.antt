@@ -6,7 +6,7 @@ use Rattle.std.proofs.lemmas.Bool.{cases_eq, cases_lt, cases_Bool}
 use Rattle.std.proofs.lemmas.List.{get_or-set_same, get_or-set_other, length-set}
 use Rattle.game_model.specs.Query.{Query}
 use Rattle.trap_sets.specs.Ends.{IsMove, IsEndComponent}
-use Rattle.trap_sets.specs.declared.inner.Inner.{Inner}
+use Rattle.trap_sets.specs.declared.internal.Internal.{Internal}
 use Rattle.trap_sets.specs.declared.reach.Way.{Way}
 use Rattle.trap_sets.specs.declared.reach.Way.TheVariants.{On, Back}
 use Rattle.trap_sets.specs.Moves.{Reach}
@@ -14,45 +14,45 @@ use Rattle.trap_sets.specs.inside.Parts.{IsRooted, root_of}
 use Rattle.trap_sets.specs.inside.Settled.{KeepsEnds, AreJoined}
 use Rattle.trap_sets.specs.inside.Roots.{roots, roots_below}
 use Rattle.trap_sets.specs.inside.Breaking.{IsBreak, IsSplit}
-use Rattle.trap_sets.specs.inside.OfInner.{IsStepOf}
+use Rattle.trap_sets.specs.inside.OfInternal.{IsStepOf}
 use Rattle.trap_sets.specs.inside.Reaching.{Passes, AreReached}
-use Rattle.trap_sets.proofs.Keeping.{walk-inner}
+use Rattle.trap_sets.proofs.Keeping.{walk-internal}
 use Rattle.trap_sets.proofs.Roots.{roots-more}
 use Rattle.trap_sets.proofs.Reaching.{walk-turned, closed-on, closed-back}
 use Rattle.trap_sets.proofs.Walking.{reach-join}
 use Rattle.trap_sets.proofs.Zeros.{within}
 
-module _ (inner : Inner)
-    (h : KeepsEnds inner.cut.question.now inner.cut.replies.now inner.part.now) (rooted : IsRooted inner.part.now) where
+module _ (internal : Internal)
+    (h : KeepsEnds internal.cut.question.now internal.cut.replies.now internal.part.now) (rooted : IsRooted internal.part.now) where
   -- no end component crosses the marks of a search
-  uncrossed : (way : Way) (marks : List Bool) → AreReached inner way marks → (member : ℕ → Bool)
-      (listed : ℕ → ℕ → Bool) → IsEndComponent inner.cut.question.now inner.cut.replies.now member listed → (t u : ℕ)
+  uncrossed : (way : Way) (marks : List Bool) → AreReached internal way marks → (member : ℕ → Bool)
+      (listed : ℕ → ℕ → Bool) → IsEndComponent internal.cut.question.now internal.cut.replies.now member listed → (t u : ℕ)
       → member t ≡ true → member u ≡ true → slice_index_or marks t false ≡ true → slice_index_or marks u false ≡ true
   uncrossed On marks k member listed component t u in' in'' is =
-      let forth : Reach (IsMove inner.cut.question.now listed) t u = component.joined t u in' in'' in
-      closed-on inner marks k forth.0 t u (walk-inner inner.cut.question.now inner.cut.replies.now inner.part.now h
+      let forth : Reach (IsMove internal.cut.question.now listed) t u = component.joined t u in' in'' in
+      closed-on internal marks k forth.0 t u (walk-internal internal.cut.question.now internal.cut.replies.now internal.part.now h
       member listed component forth.0 t u in' forth.1) is
   uncrossed Back marks k member listed component t u in' in'' is =
-      let around : Reach (IsMove inner.cut.question.now listed) u t = component.joined u t in'' in' in
-      closed-back inner marks k around.0 u t (walk-inner inner.cut.question.now inner.cut.replies.now inner.part.now h
+      let around : Reach (IsMove internal.cut.question.now listed) u t = component.joined u t in'' in' in
+      closed-back internal marks k around.0 u t (walk-internal internal.cut.question.now internal.cut.replies.now internal.part.now h
       member listed component around.0 u t in'' around.1) is
 
   -- where a search does not come to a state, its marks break up the part of the state
-  pub IsBreak-missed : (way : Way) (marks : List Bool) (s : ℕ) → AreReached inner way marks
-      → (slice_index inner.part.now s ≢ 0) × (slice_index_or marks s false ≡ false)
-      × ((t : ℕ) → t < s → slice_index inner.part.now t ≢ 0 → slice_index_or marks t false ≡ true)
-      → IsBreak inner.cut.question.now inner.cut.replies.now inner.part.now marks s
+  pub IsBreak-missed : (way : Way) (marks : List Bool) (s : ℕ) → AreReached internal way marks
+      → (slice_index internal.part.now s ≢ 0) × (slice_index_or marks s false ≡ false)
+      × ((t : ℕ) → t < s → slice_index internal.part.now t ≢ 0 → slice_index_or marks t false ≡ true)
+      → IsBreak internal.cut.question.now internal.cut.replies.now internal.part.now marks s
   IsBreak-missed way marks s k missed =
-      let some : slice_index inner.part.now s ≢ 0 = missed.0 in
-      let root : slice_index inner.part.now (root_of inner.part.now s) ≡ slice_index inner.part.now s =
+      let some : slice_index internal.part.now s ≢ 0 = missed.0 in
+      let root : slice_index internal.part.now (root_of internal.part.now s) ≡ slice_index internal.part.now s =
       rooted.root s some in
-      let there : root_of inner.part.now s < length inner.part.now =
-      within inner.part.now (root_of inner.part.now s) (λ none. some (sym root ∙ none)) in
+      let there : root_of internal.part.now s < length internal.part.now =
+      within internal.part.now (root_of internal.part.now s) (λ none. some (sym root ∙ none)) in
       record {
         many = k.reached.many;
-        inside = omega (arith, within inner.part.now s some, h.many);
+        inside = omega (arith, within internal.part.now s some, h.many);
         some = some;
-        root = k.reached.roots (root_of inner.part.now s) (omega (arith, there, h.many)) (omega (arith, root, some));
+        root = k.reached.roots (root_of internal.part.now s) (omega (arith, there, h.many)) (omega (arith, root, some));
         apart = missed.1;
         first = λ t has out. elim (cases_lt t s) [
           | inl before ↦
@@ -64,17 +64,17 @@ module _ (inner : Inner)
       }
 
   -- where searches both ways come to all states of the parts, these reach each other
-  pub AreJoined-met : (back on : List Bool) → AreReached inner Back back → AreReached inner On on
-      → ((s : ℕ) → slice_index inner.part.now s ≢ 0 → slice_index_or back s false ≡ true)
-      → ((s : ℕ) → slice_index inner.part.now s ≢ 0 → slice_index_or on s false ≡ true)
-      → AreJoined inner.cut.question.now inner.cut.replies.now inner.part.now
+  pub AreJoined-met : (back on : List Bool) → AreReached internal Back back → AreReached internal On on
+      → ((s : ℕ) → slice_index internal.part.now s ≢ 0 → slice_index_or back s false ≡ true)
+      → ((s : ℕ) → slice_index internal.part.now s ≢ 0 → slice_index_or on s false ≡ true)
+      → AreJoined internal.cut.question.now internal.cut.replies.now internal.part.now
   AreJoined-met back on k j all-back all-on = λ s t some same.
-      let home : Reach (Passes inner Back) (root_of inner.part.now s) s = k.reached.met s (all-back s some) in
-      let away : Reach (IsStepOf inner) (root_of inner.part.now t) t =
+      let home : Reach (Passes internal Back) (root_of internal.part.now s) s = k.reached.met s (all-back s some) in
+      let away : Reach (IsStepOf internal) (root_of internal.part.now t) t =
       j.reached.met t (all-on t (λ none. some (same ∙ none))) in
-      reach-join (IsStepOf inner) s (root_of inner.part.now s) t
-      (walk-turned inner home.0 (root_of inner.part.now s) s home.1)
-      (subst (λ x. Reach (IsStepOf inner) (x - 1) t) (sym same) away)
+      reach-join (IsStepOf internal) s (root_of internal.part.now s) t
+      (walk-turned internal home.0 (root_of internal.part.now s) s home.1)
+      (subst (λ x. Reach (IsStepOf internal) (x - 1) t) (sym same) away)
 
 -- nothing has been split
 pub IsSplit-none : (old : List ℕ) (marks : List Bool) (own name : ℕ) → IsSplit old marks own name 0 old

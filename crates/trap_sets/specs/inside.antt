@@ -3,7 +3,7 @@ pub mod Parts
 pub mod Settled
 pub mod Breaking
 pub mod OfCut
-pub mod OfInner
+pub mod OfInternal
 pub mod Reaching
 pub mod Naming
 pub mod Each

@@ -7,7 +7,7 @@ ghost use Rattle.trap_sets.specs.inside.Parts.{IsRooted};
 ghost use Rattle.trap_sets.specs.inside.Roots.{roots};
 
 use crate::cut::Cut;
-use crate::inner::Inner;
+use crate::internal::Internal;
 use crate::reach::{Way, reached};
 use game_outside::OutOfMemory;
 use std::alloc::Global;
@@ -44,24 +44,24 @@ fn find_break(alloc: Global, cut: &Cut<'_>, part: &[u32]) -> Result<Option<Break
     ensures { IfOk result (λ found. MatchOption found (AreJoinedIn cut.now part.now)
         (λ b. IsBreakOf cut.now part.now b.marks.items b.state)) }
 {
-    let inner = Inner::of_parts(alloc, cut, part)?;
-    let found = search_break(alloc, &inner)?;
+    let internal = Internal::of_parts(alloc, cut, part)?;
+    let found = search_break(alloc, &internal)?;
     Ok(found)
 }
 
 /// Searches back from the roots of all parts, and then on from them.
-fn search_break(alloc: Global, inner: &Inner<'_>) -> Result<Option<Break>, OutOfMemory>
-    requires keeps { KeepsEndsOf inner.now.cut inner.now.part.now }
-    requires rooted { IsRooted inner.now.part.now }
-    ensures { IfOk result (λ found. MatchOption found (AreJoinedIn inner.now.cut inner.now.part.now)
-        (λ b. IsBreakOf inner.now.cut inner.now.part.now b.marks.items b.state)) }
+fn search_break(alloc: Global, internal: &Internal<'_>) -> Result<Option<Break>, OutOfMemory>
+    requires keeps { KeepsEndsOf internal.now.cut internal.now.part.now }
+    requires rooted { IsRooted internal.now.part.now }
+    ensures { IfOk result (λ found. MatchOption found (AreJoinedIn internal.now.cut internal.now.part.now)
+        (λ b. IsBreakOf internal.now.cut internal.now.part.now b.marks.items b.state)) }
 {
-    let back = reached(alloc, inner, Way::Back)?;
-    if let Some(state) = first_unmarked(inner.part, &back) {
+    let back = reached(alloc, internal, Way::Back)?;
+    if let Some(state) = first_unmarked(internal.part, &back) {
         return Ok(Some(Break { marks: back, state }));
     }
-    let on = reached(alloc, inner, Way::On)?;
-    if let Some(state) = first_unmarked(inner.part, &on) {
+    let on = reached(alloc, internal, Way::On)?;
+    if let Some(state) = first_unmarked(internal.part, &on) {
         return Ok(Some(Break { marks: on, state }));
     }
     Ok(None)

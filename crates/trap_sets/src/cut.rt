@@ -23,7 +23,7 @@ impl Cut<'_> {
     ghost use Rattle.std.specs.Prelude.{ℕ, ◌<◌, ◌≤◌, ◌↔◌, IsTrue};
     ghost use Rattle.game_model.specs.Game.{choices_of};
     ghost use Rattle.trap_sets.specs.Moves.{IsCut};
-    ghost use Rattle.trap_sets.specs.inside.OfCut.{states_in, IsInnerIn};
+    ghost use Rattle.trap_sets.specs.inside.OfCut.{states_in, IsInternalIn};
 
     /// Returns whether a choice is one of the cut question. A state of the minimiser has only its reply.
     fn has(&self, state: u32, choice: u32) -> bool
@@ -40,33 +40,33 @@ impl Cut<'_> {
         }
     }
 
-    /// Returns whether a choice is inner: it is one of the cut question, at a state with a part, and stays in this
+    /// Returns whether a choice is internal: it is one of the cut question, at a state with a part, and stays in this
     /// part.
-    pub(crate) fn is_inner(&self, part: &[u32], state: u32, choice: u32) -> bool
+    pub(crate) fn is_internal(&self, part: &[u32], state: u32, choice: u32) -> bool
         requires state { state < states_in self.now }
         requires choice { choice < length (choices_of self.now.question.now.game state) }
         requires part { length part.now ≡ states_in self.now }
-        ensures { IsTrue result ↔ IsInnerIn self.now part.now state choice }
+        ensures { IsTrue result ↔ IsInternalIn self.now part.now state choice }
     {
         part[state as usize] != 0
             && self.has(state, choice)
             && stays(self.question, part, state, choice)
     }
 
-    /// Returns the first inner choice of a state, from this one on, or the number of choices if there is none.
-    pub fn next_inner(&self, part: &[u32], state: u32, from: u32) -> u32
+    /// Returns the first internal choice of a state, from this one on, or the number of choices if there is none.
+    pub fn next_internal(&self, part: &[u32], state: u32, from: u32) -> u32
         requires state { state < states_in self.now }
         requires from { from ≤ length (choices_of self.now.question.now.game state) }
         requires part { length part.now ≡ states_in self.now }
         ensures from { from ≤ result }
         ensures within { result ≤ length (choices_of self.now.question.now.game state) }
-        ensures before { (c : ℕ) → from ≤ c → c < result → ¬ IsInnerIn self.now part.now state c }
+        ensures before { (c : ℕ) → from ≤ c → c < result → ¬ IsInternalIn self.now part.now state c }
         ensures found { result < length (choices_of self.now.question.now.game state)
-            → IsInnerIn self.now part.now state result }
+            → IsInternalIn self.now part.now state result }
     {
         let count = self.question.game().choices_of(state);
         for choice in from..count {
-            if self.is_inner(part, state, choice) {
+            if self.is_internal(part, state, choice) {
                 return choice;
             }
         }

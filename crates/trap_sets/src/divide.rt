@@ -7,17 +7,17 @@ ghost use Rattle.trap_sets.specs.inside.Parts.{IsRooted};
 ghost use Rattle.trap_sets.specs.inside.Naming.{IsNaming};
 
 use crate::cut::Cut;
-use crate::inner::Inner;
+use crate::internal::Internal;
 use game_outside::OutOfMemory;
 use std::alloc::Global;
 
-/// Divides these parts into the components of their inner choices.
+/// Divides these parts into the components of their internal choices.
 pub fn divided(alloc: Global, cut: &Cut<'_>, part: &[u32]) -> Result<Vec<u32>, OutOfMemory>
     requires { KeepsEndsOf cut.now part.now }
     ensures { IfOk result (λ class. KeepsEndsOf cut.now class.items) }
 {
-    let inner = Inner::of_parts(alloc, cut, part)?;
-    let class = inner.divided(alloc)?;
+    let internal = Internal::of_parts(alloc, cut, part)?;
+    let class = internal.divided(alloc)?;
     Ok(class)
 }
 

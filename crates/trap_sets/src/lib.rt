@@ -16,17 +16,17 @@
 //! clause says how near it comes to the values. Other replies have other traps.
 //!
 //! The traps are found in rounds, over parts of the states. The first part has all states that are neither goal nor
-//! dead. A choice is inner if all its successors are in the part of its state. A round takes three steps:
+//! dead. A choice is internal if all its successors are in the part of its state. A round takes three steps:
 //!
-//! 1. Every second round, it divides each part into the strongly connected components of its inner choices
+//! 1. Every second round, it divides each part into the strongly connected components of its internal choices
 //!    (`components`). Most often the third step breaks off a few states, and their removal is all that is left to do.
-//! 2. It takes their part from the states that have no inner choice, and from those that have none left then. This is
+//! 2. It takes their part from the states that have no internal choice, and from those that have none left then. This is
 //!    done once before the first round, too.
-//! 3. It searches from the root of each part, by the choices that are inner then, back and on. If one of the searches
+//! 3. It searches from the root of each part, by the choices that are internal then, back and on. If one of the searches
 //!    misses a state of the part, the part is broken up there, and another round follows (Fleischer, Hendrickson and
 //!    Pinar, On identifying strongly connected components in parallel, 2000).
 //!
-//! In the end the states of each part reach each other, and a state without an inner choice is the only one in its part
+//! In the end the states of each part reach each other, and a state without an internal choice is the only one in its part
 //! (Baier and Katoen, Principles of Model Checking, 2008, algorithm 47).
 //!
 //! No proof says that the first two steps find all that they search for; it says that they cut no end component. The
@@ -40,7 +40,7 @@ mod breaking;
 mod choices;
 mod cut;
 mod divide;
-mod inner;
+mod internal;
 mod lower;
 mod numbers;
 mod reach;

@@ -3,16 +3,16 @@
 ghost use Rattle.std.specs.Prelude.{◌≡◌, ℕ, ◌+◌, ◌<◌, true, false, length, slice_index, slice_index_or, IfOk, OnOk};
 ghost use Rattle.attractors.specs.Growing.{IsOrder};
 ghost use Rattle.game_model.specs.Game.{choices_of};
-ghost use Rattle.trap_sets.specs.inside.OfInner.{states_of, LeadsOf, IsInnerOf, IsStepOf};
+ghost use Rattle.trap_sets.specs.inside.OfInternal.{states_of, LeadsOf, IsInternalOf, IsStepOf};
 ghost use Rattle.trap_sets.specs.inside.Parts.{IsRooted};
 ghost use Rattle.trap_sets.specs.inside.Reaching.{Passes, IsMore, IsReaching, AreReached};
 
-use crate::inner::Inner;
+use crate::internal::Internal;
 use game_outside::OutOfMemory;
 use predecessors::Move;
 use std::alloc::Global;
 
-/// A search goes on along inner choices, or back against them.
+/// A search goes on along internal choices, or back against them.
 #[derive(Clone, Copy)]
 pub enum Way {
     On,
@@ -27,14 +27,14 @@ struct Search {
 }
 
 /// Marks the states to which a search comes that goes this way from the root of their part.
-pub fn reached(alloc: Global, inner: &Inner<'_>, way: Way) -> Result<Vec<bool>, OutOfMemory>
-    ensures { IfOk result (λ marks. AreReached inner.now way marks.items) }
+pub fn reached(alloc: Global, internal: &Internal<'_>, way: Way) -> Result<Vec<bool>, OutOfMemory>
+    ensures { IfOk result (λ marks. AreReached internal.now way marks.items) }
 {
-    let mut search = Search::of_roots(alloc, inner)?;
+    let mut search = Search::of_roots(alloc, internal)?;
     let mut place: usize = 0;
     while place < search.order.len() {
         let state = search.order[place];
-        search.pass(inner, way, state)?;
+        search.pass(internal, way, state)?;
         place += 1;
     }
     Ok(search.marks)
@@ -42,14 +42,14 @@ pub fn reached(alloc: Global, inner: &Inner<'_>, way: Way) -> Result<Vec<bool>, 
 
 impl Search {
     /// Marks only the roots.
-    fn of_roots(alloc: Global, inner: &Inner<'_>) -> Result<Search, OutOfMemory>
-        ensures { IfOk result (λ r. (way : Way) → IsReaching inner.now way r.marks.items r.order.items 0) }
+    fn of_roots(alloc: Global, internal: &Internal<'_>) -> Result<Search, OutOfMemory>
+        ensures { IfOk result (λ r. (way : Way) → IsReaching internal.now way r.marks.items r.order.items 0) }
     {
-        let states = inner.cut.question.game().states();
+        let states = internal.cut.question.game().states();
         let mut marks = Vec::with_capacity(alloc, states as usize)?;
         let mut order = Vec::new(alloc);
         for state in 0..states {
-            let is_root = inner.part[state as usize] == state + 1;
+            let is_root = internal.part[state as usize] == state + 1;
             marks.push(is_root)?;
             if is_root {
                 order.push(state)?;
@@ -75,52 +75,52 @@ impl Search {
     }
 
     /// Marks the states to which a search passes from this one.
-    fn pass(&mut self, inner: &Inner<'_>, way: Way, state: u32) -> Result<(), OutOfMemory>
+    fn pass(&mut self, internal: &Internal<'_>, way: Way, state: u32) -> Result<(), OutOfMemory>
         requires ordered { IsOrder self.old.marks.items self.old.order.items }
-        requires many { length self.old.marks.items ≡ states_of inner.now }
-        requires state { state < states_of inner.now }
-        ensures more { OnOk result (IsMore (Passes inner.now way state) self.old.marks.items self.old.order.items
+        requires many { length self.old.marks.items ≡ states_of internal.now }
+        requires state { state < states_of internal.now }
+        ensures more { OnOk result (IsMore (Passes internal.now way state) self.old.marks.items self.old.order.items
             self.new.marks.items self.new.order.items) }
-        ensures passed { OnOk result ((t : ℕ) → Passes inner.now way state t
+        ensures passed { OnOk result ((t : ℕ) → Passes internal.now way state t
             → slice_index_or self.new.marks.items t false ≡ true) }
     {
         match way {
-            Way::On => self.go_on(inner, state),
-            Way::Back => self.go_back(inner, state),
+            Way::On => self.go_on(internal, state),
+            Way::Back => self.go_back(internal, state),
         }
     }
 
-    /// Marks the states to which an inner choice of this one leads.
-    fn go_on(&mut self, inner: &Inner<'_>, state: u32) -> Result<(), OutOfMemory>
+    /// Marks the states to which an internal choice of this one leads.
+    fn go_on(&mut self, internal: &Internal<'_>, state: u32) -> Result<(), OutOfMemory>
         requires ordered { IsOrder self.old.marks.items self.old.order.items }
-        requires many { length self.old.marks.items ≡ states_of inner.now }
-        requires state { state < states_of inner.now }
-        ensures more { OnOk result (IsMore (IsStepOf inner.now state) self.old.marks.items self.old.order.items
+        requires many { length self.old.marks.items ≡ states_of internal.now }
+        requires state { state < states_of internal.now }
+        ensures more { OnOk result (IsMore (IsStepOf internal.now state) self.old.marks.items self.old.order.items
             self.new.marks.items self.new.order.items) }
-        ensures passed { OnOk result ((t : ℕ) → IsStepOf inner.now state t
+        ensures passed { OnOk result ((t : ℕ) → IsStepOf internal.now state t
             → slice_index_or self.new.marks.items t false ≡ true) }
     {
-        for choice in 0..inner.cut.question.game().choices_of(state) {
-            self.follow(inner, Move { state, choice })?;
+        for choice in 0..internal.cut.question.game().choices_of(state) {
+            self.follow(internal, Move { state, choice })?;
         }
         Ok(())
     }
 
-    /// Marks the states to which a choice leads, if it is inner.
-    fn follow(&mut self, inner: &Inner<'_>, step: Move) -> Result<(), OutOfMemory>
+    /// Marks the states to which a choice leads, if it is internal.
+    fn follow(&mut self, internal: &Internal<'_>, step: Move) -> Result<(), OutOfMemory>
         requires ordered { IsOrder self.old.marks.items self.old.order.items }
-        requires many { length self.old.marks.items ≡ states_of inner.now }
-        requires state { step.state < states_of inner.now }
-        requires choice { step.choice < length (choices_of inner.now.cut.question.now.game step.state) }
-        ensures more { OnOk result (IsMore (IsStepOf inner.now step.state) self.old.marks.items self.old.order.items
+        requires many { length self.old.marks.items ≡ states_of internal.now }
+        requires state { step.state < states_of internal.now }
+        requires choice { step.choice < length (choices_of internal.now.cut.question.now.game step.state) }
+        ensures more { OnOk result (IsMore (IsStepOf internal.now step.state) self.old.marks.items self.old.order.items
             self.new.marks.items self.new.order.items) }
-        ensures passed { OnOk result (IsInnerOf inner.now step.state step.choice → (t : ℕ)
-            → LeadsOf inner.now step.state step.choice t → slice_index_or self.new.marks.items t false ≡ true) }
+        ensures passed { OnOk result (IsInternalOf internal.now step.state step.choice → (t : ℕ)
+            → LeadsOf internal.now step.state step.choice t → slice_index_or self.new.marks.items t false ≡ true) }
     {
-        if !inner.has(step.state, step.choice) {
+        if !internal.has(step.state, step.choice) {
             return Ok(());
         }
-        for to in inner
+        for to in internal
             .cut
             .question
             .game()
@@ -131,34 +131,34 @@ impl Search {
         Ok(())
     }
 
-    /// Marks the states from which an inner choice leads to this one.
-    fn go_back(&mut self, inner: &Inner<'_>, state: u32) -> Result<(), OutOfMemory>
+    /// Marks the states from which an internal choice leads to this one.
+    fn go_back(&mut self, internal: &Internal<'_>, state: u32) -> Result<(), OutOfMemory>
         requires ordered { IsOrder self.old.marks.items self.old.order.items }
-        requires many { length self.old.marks.items ≡ states_of inner.now }
-        requires state { state < states_of inner.now }
-        ensures more { OnOk result (IsMore (λ s. IsStepOf inner.now s state) self.old.marks.items self.old.order.items
+        requires many { length self.old.marks.items ≡ states_of internal.now }
+        requires state { state < states_of internal.now }
+        ensures more { OnOk result (IsMore (λ s. IsStepOf internal.now s state) self.old.marks.items self.old.order.items
             self.new.marks.items self.new.order.items) }
-        ensures passed { OnOk result ((s : ℕ) → IsStepOf inner.now s state
+        ensures passed { OnOk result ((s : ℕ) → IsStepOf internal.now s state
             → slice_index_or self.new.marks.items s false ≡ true) }
     {
-        for step in inner.cut.predecessors.of_state(state) {
-            self.meet(inner, *step)?;
+        for step in internal.cut.predecessors.of_state(state) {
+            self.meet(internal, *step)?;
         }
         Ok(())
     }
 
-    /// Marks the state of a choice, if it is inner.
-    fn meet(&mut self, inner: &Inner<'_>, step: Move) -> Result<(), OutOfMemory>
+    /// Marks the state of a choice, if it is internal.
+    fn meet(&mut self, internal: &Internal<'_>, step: Move) -> Result<(), OutOfMemory>
         requires ordered { IsOrder self.old.marks.items self.old.order.items }
-        requires many { length self.old.marks.items ≡ states_of inner.now }
-        requires state { step.state < states_of inner.now }
-        requires choice { step.choice < length (choices_of inner.now.cut.question.now.game step.state) }
-        ensures more { OnOk result (IsMore (λ s. (s ≡ step.state) × IsInnerOf inner.now step.state step.choice)
+        requires many { length self.old.marks.items ≡ states_of internal.now }
+        requires state { step.state < states_of internal.now }
+        requires choice { step.choice < length (choices_of internal.now.cut.question.now.game step.state) }
+        ensures more { OnOk result (IsMore (λ s. (s ≡ step.state) × IsInternalOf internal.now step.state step.choice)
             self.old.marks.items self.old.order.items self.new.marks.items self.new.order.items) }
-        ensures met { OnOk result (IsInnerOf inner.now step.state step.choice
+        ensures met { OnOk result (IsInternalOf internal.now step.state step.choice
             → slice_index_or self.new.marks.items step.state false ≡ true) }
     {
-        if self.marks[step.state as usize] || !inner.has(step.state, step.choice) {
+        if self.marks[step.state as usize] || !internal.has(step.state, step.choice) {
             return Ok(());
         }
         self.add(step.state)

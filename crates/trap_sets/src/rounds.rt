@@ -51,7 +51,7 @@ fn break_all(alloc: Global, cut: &Cut<'_>, part: &mut [u32]) -> Result<(), OutOf
     Ok(())
 }
 
-/// Returns the parts without the states that have no inner choice. Each of these is the only one in its part.
+/// Returns the parts without the states that have no internal choice. Each of these is the only one in its part.
 fn without_exits(alloc: Global, cut: &Cut<'_>, part: &[u32]) -> Result<Vec<u32>, OutOfMemory>
     requires keeps { KeepsEndsOf cut.now part.now }
     requires rooted { IsRooted part.now }
@@ -66,13 +66,13 @@ fn without_exits(alloc: Global, cut: &Cut<'_>, part: &[u32]) -> Result<Vec<u32>,
     Ok(kept)
 }
 
-/// Returns the part of a state that has an inner choice, and none for any other state.
+/// Returns the part of a state that has an internal choice, and none for any other state.
 fn kept_part(cut: &Cut<'_>, part: &[u32], state: u32) -> u32
     requires state { state < states_in cut.now }
     requires many { length part.now ≡ states_in cut.now }
     ensures { IsKeptIn cut.now part.now state result }
 {
-    if cut.next_inner(part, state, 0) < cut.question.game().choices_of(state) {
+    if cut.next_internal(part, state, 0) < cut.question.game().choices_of(state) {
         part[state as usize]
     } else {
         0

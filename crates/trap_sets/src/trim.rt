@@ -1,4 +1,4 @@
-//! This module removes states that have no inner choice, as far as a search finds them.
+//! This module removes states that have no internal choice, as far as a search finds them.
 
 ghost use Rattle.std.specs.Prelude.{◌≡◌, ◌<◌, length, OnOk};
 ghost use Rattle.trap_sets.specs.inside.OfCut.{states_in, KeepsEndsOf};
@@ -8,7 +8,7 @@ use game_outside::OutOfMemory;
 use predecessors::Move;
 use std::alloc::Global;
 
-/// Takes its part from each state that has no inner choice, and from each that has none left then, and so on. A state
+/// Takes its part from each state that has no internal choice, and from each that has none left then, and so on. A state
 /// waits for one choice at a time, so each choice is tested three times at most. The contract does not say that all
 /// such states are found. One that is missed goes later.
 pub fn trim(alloc: Global, cut: &Cut<'_>, part: &mut [u32]) -> Result<(), OutOfMemory>
@@ -72,7 +72,7 @@ fn test_again(
     test(cut, step.state, part, awaited, gone)
 }
 
-/// Tests a state from its awaited choice on. The state waits for the next inner choice, and loses its part if it has
+/// Tests a state from its awaited choice on. The state waits for the next internal choice, and loses its part if it has
 /// none at all.
 fn test(
     cut: &Cut<'_>,
@@ -92,9 +92,9 @@ fn test(
         return Ok(());
     }
     let choices = cut.question.game().choices_of(state);
-    let next = cut.next_inner(part, state, awaited[place].min(choices));
+    let next = cut.next_internal(part, state, awaited[place].min(choices));
     awaited[place] = next;
-    if next < choices || cut.next_inner(part, state, 0) < choices {
+    if next < choices || cut.next_internal(part, state, 0) < choices {
         return Ok(());
     }
     part[place] = 0;

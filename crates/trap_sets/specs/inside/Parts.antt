@@ -12,19 +12,19 @@ abbrev pub Leaves : Query → List ℕ → ℕ → ℕ → Type 0
 Leaves q of s c = (t : ℕ) × Leads q s c t × (slice_index of t ≢ slice_index of s)
 
 -- A choice of the cut question at a state with a part has all its successors in that part.
-pub record IsInner (q : Query) (replies : List (Option ℕ)) (part : List ℕ) (s c : ℕ) : Type 0 where
+pub record IsInternal (q : Query) (replies : List (Option ℕ)) (part : List ℕ) (s c : ℕ) : Type 0 where
   pub some : slice_index part s ≢ 0
   pub cut : IsCut q replies s c
   pub stays : Stays q part s c
 
--- An inner choice of the first state leads to the second.
+-- An internal choice of the first state leads to the second.
 pub record IsStep (q : Query) (replies : List (Option ℕ)) (part : List ℕ) (s t : ℕ) : Type 0 where
   pub choice : ℕ
   pub state : s < states q
-  pub inner : IsInner q replies part s choice
+  pub internal : IsInternal q replies part s choice
   pub leads : Leads q s choice t
 
--- Inner choices lead from one state to another in some number of moves.
+-- Internal choices lead from one state to another in some number of moves.
 abbrev pub Comes : Query → List (Option ℕ) → List ℕ → ℕ → ℕ → Type 0
 Comes q replies part s t = Reach (IsStep q replies part) s t
 

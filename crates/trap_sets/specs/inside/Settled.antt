@@ -3,7 +3,7 @@ use Rattle.std.specs.Prelude.{◌≡◌, ◌≢◌, ℕ, ◌<◌, ◌⊎◌, Boo
 use Rattle.game_model.specs.Query.{Query, states}
 use Rattle.fixed_bellman.specs.Given.{IsFree}
 use Rattle.trap_sets.specs.Ends.{IsEndComponent}
-use Rattle.trap_sets.specs.inside.Parts.{IsInner, Comes, IsRooted}
+use Rattle.trap_sets.specs.inside.Parts.{IsInternal, Comes, IsRooted}
 
 -- The states with a part are neither goal nor dead, and each end component lies in one part.
 pub record KeepsEnds (q : Query) (replies : List (Option ℕ)) (part : List ℕ) : Type 0 where
@@ -14,11 +14,11 @@ pub record KeepsEnds (q : Query) (replies : List (Option ℕ)) (part : List ℕ)
   pub joined : (set : ℕ → Bool) (listed : ℕ → ℕ → Bool) → IsEndComponent q replies set listed → (s t : ℕ) → set s ≡ true
       → set t ≡ true → slice_index part s ≡ slice_index part t
 
--- Each state with a part has an inner choice.
-abbrev pub HaveInner : Query → List (Option ℕ) → List ℕ → Type 0
-HaveInner q replies part = (s : ℕ) → s < states q → slice_index part s ≢ 0 → (c : ℕ) × IsInner q replies part s c
+-- Each state with a part has an internal choice.
+abbrev pub HaveInternal : Query → List (Option ℕ) → List ℕ → Type 0
+HaveInternal q replies part = (s : ℕ) → s < states q → slice_index part s ≢ 0 → (c : ℕ) × IsInternal q replies part s c
 
--- The states of each part reach each other by inner choices.
+-- The states of each part reach each other by internal choices.
 abbrev pub AreJoined : Query → List (Option ℕ) → List ℕ → Type 0
 AreJoined q replies part = (s t : ℕ) → slice_index part s ≢ 0 → slice_index part s ≡ slice_index part t
     → Comes q replies part s t
@@ -27,13 +27,13 @@ AreJoined q replies part = (s t : ℕ) → slice_index part s ≢ 0 → slice_in
 pub record AreSettled (q : Query) (replies : List (Option ℕ)) (part : List ℕ) : Type 0 where
   pub keeps : KeepsEnds q replies part
   pub rooted : IsRooted part
-  pub inner : HaveInner q replies part
+  pub internal : HaveInternal q replies part
   pub joined : AreJoined q replies part
 
--- A state with an inner choice keeps its number, and any other has none.
+-- A state with an internal choice keeps its number, and any other has none.
 abbrev pub IsKept : Query → List (Option ℕ) → List ℕ → ℕ → ℕ → Type 0
-IsKept q replies part s own = ((own ≡ 0) × ((c : ℕ) → ¬ IsInner q replies part s c))
-    ⊎ ((own ≡ slice_index part s) × ((c : ℕ) × IsInner q replies part s c))
+IsKept q replies part s own = ((own ≡ 0) × ((c : ℕ) → ¬ IsInternal q replies part s c))
+    ⊎ ((own ≡ slice_index part s) × ((c : ℕ) × IsInternal q replies part s c))
 
 -- A state has part 1 if it is neither goal nor dead, and else none.
 pub record IsOpening (q : Query) (s own : ℕ) : Type 0 where

@@ -15,24 +15,24 @@ missed part marks read s is found = subst (λ (xs : List Bool). (slice_index par
     × ((t : ℕ) → t < s → slice_index part t ≢ 0 → slice_index_or xs t false ≡ true)) is found
 
 pub returns-in-Some : goal.returns-in-Some
-returns-in-Some c = IsBreak-missed c.args.inner.now c.requires.keeps c.requires.rooted Back c.in_ok-back.back.items
-    c.in-Some.state c.in_ok-back.ensures (missed c.args.inner.now.part.now c.in_ok-back.back.items c.deref.result.now
+returns-in-Some c = IsBreak-missed c.args.internal.now c.requires.keeps c.requires.rooted Back c.in_ok-back.back.items
+    c.in-Some.state c.in_ok-back.ensures (missed c.args.internal.now.part.now c.in_ok-back.back.items c.deref.result.now
     c.in-Some.state c.deref.ensures.value c.in-Some.ensures)
 
 pub returns-in-Some-first_unmarked : goal.returns-in-Some-first_unmarked
-returns-in-Some-first_unmarked c = IsBreak-missed c.args.inner.now c.requires.keeps c.requires.rooted On
-    c.in_ok-on.on.items c.in-Some-first_unmarked.state c.in_ok-on.ensures (missed c.args.inner.now.part.now
+returns-in-Some-first_unmarked c = IsBreak-missed c.args.internal.now c.requires.keeps c.requires.rooted On
+    c.in_ok-on.on.items c.in-Some-first_unmarked.state c.in_ok-on.ensures (missed c.args.internal.now.part.now
     c.in_ok-on.on.items c.deref-2.result.now c.in-Some-first_unmarked.state c.deref-2.ensures.value
     c.in-Some-first_unmarked.ensures)
 
 pub returns : goal.returns
 returns c =
-    let part = c.args.inner.now.part.now in
+    let part = c.args.internal.now.part.now in
     let back : (s : ℕ) → slice_index part s ≢ 0 → slice_index_or c.in_ok-back.back.items s false ≡ true =
     subst (λ (xs : List Bool). (s : ℕ) → slice_index part s ≢ 0 → slice_index_or xs s false ≡ true)
     c.deref.ensures.value c.in_default.ensures in
     let on : (s : ℕ) → slice_index part s ≢ 0 → slice_index_or c.in_ok-on.on.items s false ≡ true =
     subst (λ (xs : List Bool). (s : ℕ) → slice_index part s ≢ 0 → slice_index_or xs s false ≡ true)
     c.deref-2.ensures.value c.in_default-first_unmarked.ensures in
-    AreJoined-met c.args.inner.now c.requires.keeps c.requires.rooted c.in_ok-back.back.items c.in_ok-on.on.items
+    AreJoined-met c.args.internal.now c.requires.keeps c.requires.rooted c.in_ok-back.back.items c.in_ok-on.on.items
     c.in_ok-back.ensures c.in_ok-on.ensures back on

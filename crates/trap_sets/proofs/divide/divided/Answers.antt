@@ -4,5 +4,5 @@ use Rattle.trap_sets.specs.inside.OfCut.{KeepsEndsOf}
 use Rattle.trap_sets.proofs.divide.divided.Goals as goal
 
 pub returns : goal.returns
-returns c = subst (λ (cut : Cut). KeepsEndsOf cut c.in_ok-class.class.items) c.in_ok-inner.ensures.cut
+returns c = subst (λ (cut : Cut). KeepsEndsOf cut c.in_ok-class.class.items) c.in_ok-internal.ensures.cut
     c.in_ok-class.ensures

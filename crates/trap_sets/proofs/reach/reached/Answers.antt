@@ -14,7 +14,7 @@ loop-place-preserved c =
     let at : c.index-state.result.now ≡ slice_index old.order.items c.loop-place.place =
     get_or_read old.order.items _ _ room c.index-state.ensures 0 in
     record {
-      reaching = IsReaching-more c.args.inner.now c.args.way old.marks.items old.order.items new.marks.items
+      reaching = IsReaching-more c.args.internal.now c.args.way old.marks.items old.order.items new.marks.items
           new.order.items c.loop-place.place c.index-state.result.now c.loop-place.invariant.reaching room at
           c.in_ok-pass.ensures.more c.in_ok-pass.ensures.passed;
       within = omega
@@ -22,6 +22,6 @@ loop-place-preserved c =
     }
 
 pub returns : goal.returns
-returns c = AreReached-all c.args.inner.now c.args.way c.loop-place.search.marks.items c.loop-place.search.order.items
+returns c = AreReached-all c.args.internal.now c.args.way c.loop-place.search.marks.items c.loop-place.search.order.items
     c.loop-place.place c.loop-place.invariant.reaching
     (omega (arith, c.loop-place-test.false, c.len.ensures, c.loop-place.search.order.ok.0))

@@ -2,14 +2,14 @@ use Rattle.std.proofs.Common.{length, arith, refl, ap, inl}
 use Rattle.game_model.specs.Game.{choices_of}
 use Rattle.trap_sets.proofs.rounds.kept_part.Goals as goal
 
-pub returns-else-next_inner-choices_of : goal.returns-else-next_inner-choices_of
-returns-else-next_inner-choices_of c = inl (
+pub returns-else-next_internal-choices_of : goal.returns-else-next_internal-choices_of
+returns-else-next_internal-choices_of c = inl (
   refl,
-  λ d inner. c.next_inner.ensures.before d (omega arith) (omega (
+  λ d internal. c.next_internal.ensures.before d (omega arith) (omega (
     arith,
-    inner.cut.inside,
-    c.if-next_inner-choices_of.false,
+    internal.cut.inside,
+    c.if-next_internal-choices_of.false,
     c.choices_of.ensures,
     ap (λ g. length (choices_of g c.args.state)) c.game.ensures,
-  )) inner,
+  )) internal,
 )

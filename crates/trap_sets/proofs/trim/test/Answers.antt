@@ -6,10 +6,10 @@ use Rattle.trap_sets.proofs.trim.test.Goals as goal
 pub returns-clause-keeps : goal.returns-clause-keeps
 returns-clause-keeps c = KeepsEnds-without c.args.cut.now.question.now c.args.cut.now.replies.now c.args.part.now
     c.args.state c.requires.state c.requires.keeps
-    (λ d inner. c.next_inner.ensures.before d (omega arith) (omega (
+    (λ d internal. c.next_internal.ensures.before d (omega arith) (omega (
       arith,
-      inner.cut.inside,
-      c.if-next_inner-choices.false,
+      internal.cut.inside,
+      c.if-next_internal-choices.false,
       c.choices_of-choices.ensures,
       ap (λ g. length (choices_of g c.args.state)) c.game.ensures,
-    )) inner)
+    )) internal)

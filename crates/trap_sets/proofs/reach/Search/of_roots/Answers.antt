@@ -13,11 +13,11 @@ loop-state-preserved c = record {
     arith,
     ap length c.in_ok-push.ensures.items,
     length_push c.loop-state.marks.items
-        (slice_index c.args.inner.now.part.now c.loop-state.state == c.loop-state.state + 1),
+        (slice_index c.args.internal.now.part.now c.loop-state.state == c.loop-state.state + 1),
     c.loop-state.invariant.many,
   );
-  each = each-more (λ s. slice_index c.args.inner.now.part.now s == s + 1) c.loop-state.marks.items
-      c.push.new.self.items (slice_index c.args.inner.now.part.now c.loop-state.state == c.loop-state.state + 1)
+  each = each-more (λ s. slice_index c.args.internal.now.part.now s == s + 1) c.loop-state.marks.items
+      c.push.new.self.items (slice_index c.args.internal.now.part.now c.loop-state.state == c.loop-state.state + 1)
       c.loop-state.state c.loop-state.invariant.many c.loop-state.invariant.each refl c.in_ok-push.ensures.items;
   ordered = elim c.if-is_root.branch [
     | then-is_root+in_ok-push-2 w ↦
@@ -32,8 +32,8 @@ loop-state-preserved c = record {
 
 pub returns : goal.returns
 returns c =
-    let all : c.loop-state.state ≡ length c.args.inner.now.cut.question.now.game =
+    let all : c.loop-state.state ≡ length c.args.internal.now.cut.question.now.game =
     omega (arith, c.loop-state-test.false, c.states-states.ensures, ap length c.game.ensures) in
-    λ way. IsReaching-roots c.args.inner.now way c.loop-state.marks.items c.loop-state.order.items
+    λ way. IsReaching-roots c.args.internal.now way c.loop-state.marks.items c.loop-state.order.items
     (c.loop-state.invariant.many ∙ all) (λ s ls. c.loop-state.invariant.each s (omega (arith, ls, all)))
     c.loop-state.invariant.ordered

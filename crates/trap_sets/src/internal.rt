@@ -1,11 +1,11 @@
-//! This module finds the inner choices of given parts, once, and divides the parts into components over them.
+//! This module finds the internal choices of given parts, once, and divides the parts into components over them.
 
 ghost use Rattle.std.specs.Prelude.{◌≡◌, ◌<◌, length};
 ghost use Rattle.game_model.specs.Game.{choices_of};
 ghost use Rattle.game_model.specs.Limits.{most_states};
 ghost use Rattle.game_model.specs.Query.{states};
 ghost use Rattle.predecessors.specs.Flags.{AreFlags};
-ghost use Rattle.trap_sets.specs.inside.Parts.{IsInner};
+ghost use Rattle.trap_sets.specs.inside.Parts.{IsInternal};
 ghost use Rattle.trap_sets.specs.inside.OfCut.{states_in};
 ghost use Rattle.trap_sets.specs.inside.Naming.{IsClass};
 
@@ -16,38 +16,38 @@ use predecessors::ChoiceFlags;
 use std::alloc::Global;
 
 /// The parts of a cut question come with a flag for each choice, in the order of the game, that says whether it is
-/// inner.
+/// internal.
 #[derive(Drop)]
-pub struct Inner<'a> {
+pub struct Internal<'a> {
     pub cut: Cut<'a>,
     pub part: &'a [u32],
     flags: ChoiceFlags,
     ghost parted: { length part.now ≡ states cut.question.now },
-    ghost flagged: { AreFlags cut.question.now.game (IsInner cut.question.now cut.replies.now part.now) flags },
+    ghost flagged: { AreFlags cut.question.now.game (IsInternal cut.question.now cut.replies.now part.now) flags },
 }
 
-impl<'a> Inner<'a> {
+impl<'a> Internal<'a> {
     ghost use Rattle.std.specs.Prelude.{ℕ, ◌≤◌, ◌↔◌, IsTrue, IfOk, slice_index};
     ghost use Rattle.trap_sets.specs.inside.OfCut.{KeepsEndsOf};
-    ghost use Rattle.trap_sets.specs.inside.OfInner.{states_of, IsInnerOf};
+    ghost use Rattle.trap_sets.specs.inside.OfInternal.{states_of, IsInternalOf};
 
-    /// Finds the inner choices of these parts. Each choice is tested once.
-    pub fn of_parts(alloc: Global, cut: &Cut<'a>, part: &'a [u32]) -> Result<Inner<'a>, OutOfMemory>
+    /// Finds the internal choices of these parts. Each choice is tested once.
+    pub fn of_parts(alloc: Global, cut: &Cut<'a>, part: &'a [u32]) -> Result<Internal<'a>, OutOfMemory>
         requires { length part.now ≡ states_in cut.now }
-        ensures cut { IfOk result (λ inner. inner.cut ≡ cut.now) }
-        ensures part { IfOk result (λ inner. inner.part.now ≡ part.now) }
+        ensures cut { IfOk result (λ internal. internal.cut ≡ cut.now) }
+        ensures part { IfOk result (λ internal. internal.part.now ≡ part.now) }
     {
         let flags = ChoiceFlags::of_game(alloc, cut.question.game(), |state, choice| {
-            cut.is_inner(part, state, choice)
+            cut.is_internal(part, state, choice)
         })?;
-        Ok(Inner {
+        Ok(Internal {
             cut: *cut,
             part,
             flags,
         })
     }
 
-    /// Gives each state with a part the number of its component over the inner choices, counted from 1.
+    /// Gives each state with a part the number of its component over the internal choices, counted from 1.
     pub fn divided(&self, alloc: Global) -> Result<Vec<u32>, OutOfMemory>
         requires { KeepsEndsOf self.now.cut self.now.part.now }
         ensures { IfOk result (λ class. KeepsEndsOf self.now.cut class.items) }
@@ -60,11 +60,11 @@ impl<'a> Inner<'a> {
         Ok(class)
     }
 
-    /// Returns whether a choice is inner.
+    /// Returns whether a choice is internal.
     pub fn has(&self, state: u32, choice: u32) -> bool
         requires state { state < states_of self.now }
         requires choice { choice < length (choices_of self.now.cut.question.now.game state) }
-        ensures { IsTrue result ↔ IsInnerOf self.now state choice }
+        ensures { IsTrue result ↔ IsInternalOf self.now state choice }
     {
         self.flags.has(self.cut.question.game(), state, choice)
     }

@@ -1,7 +1,7 @@
 use Rattle.std.specs.Prelude.{slice_index}
 use Rattle.trap_sets.specs.inside.Each.{IsEach}
 use Rattle.trap_sets.specs.inside.Naming.{IsClass}
-use Rattle.trap_sets.proofs.inner.Inner.divided.Given as goal
+use Rattle.trap_sets.proofs.internal.Internal.divided.Given as goal
 
 abbrev pub invariant-loop-place : goal.invariant-loop-place
 invariant-loop-place l =

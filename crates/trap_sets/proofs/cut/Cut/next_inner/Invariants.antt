@@ -1,7 +1,0 @@
-use Rattle.std.proofs.Common.{ℕ, ◌<◌, ◌≤◌}
-use Rattle.trap_sets.specs.inside.Parts.{IsInner}
-use Rattle.trap_sets.proofs.cut.Cut.next_inner.Given as goal
-
-abbrev pub invariant-loop-choice : goal.invariant-loop-choice
-invariant-loop-choice l =
-    (c : ℕ) → l.from ≤ c → c < l.choice → ¬ IsInner l.self.question.now l.self.replies.now l.part l.state c
