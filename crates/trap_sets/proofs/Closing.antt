@@ -6,7 +6,7 @@ use Rattle.game_model.specs.declared.game.Side.TheVariants.{Min}
 use Rattle.game_model.specs.Query.{Query, states, side_at}
 use Rattle.fixed_bellman.specs.Given.{IsFree}
 use Rattle.trap_sets.specs.Ends.{IsTrap, AreTraps, numbered}
-use Rattle.trap_sets.specs.Moves.{IsCut}
+use Rattle.trap_sets.specs.Moves.{IsReplyMdp}
 use Rattle.trap_sets.specs.inside.Parts.{Stays}
 
 -- a state of a numbered set is neither goal nor dead, and a reply of the minimiser stays in it
@@ -28,8 +28,8 @@ module _ (q : Query) (replies : List (Option ℕ)) (of : List ℕ) (count : ℕ)
     replied = λ s ls some least.
         let trap : IsTrap q replies (numbered of (slice_index of s)) = trap-at s some in
         let one = trap.component.chosen s (in-trap s) in
-        let cut : IsCut q replies s one.0 = trap.component.cut s one.0 (in-trap s) one.1 one.2 in
+        let mdp : IsReplyMdp q replies s one.0 = trap.component.mdp s one.0 (in-trap s) one.1 one.2 in
         let stays : Stays q of s one.0 = λ t leads. eqb-true (slice_index of t) (slice_index of s)
         (trap.component.closed s one.0 t (in-trap s) one.1 one.2 leads) in
-        subst (λ r. IsSomeAnd r (Stays q of s)) (sym (cut.replied least)) stays;
+        subst (λ r. IsSomeAnd r (Stays q of s)) (sym (mdp.replied least)) stays;
   }

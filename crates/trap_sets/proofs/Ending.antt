@@ -77,7 +77,7 @@ module _ (q : Query) (replies : List (Option ℕ)) (class part : List ℕ) (h : 
         state = step.state;
         internal = record {
           some = some;
-          cut = step.internal.cut;
+          mdp = step.internal.mdp;
           stays = λ u leads. stays-now s u some (step.internal.stays u leads);
         };
         leads = step.leads;
@@ -116,7 +116,7 @@ module _ (q : Query) (replies : List (Option ℕ)) (class part : List ℕ) (h : 
     internal = λ s ls some.
         let one = internal-was s some in (
           one.0,
-          record { some = some; cut = one.1.cut; stays = λ t leads. stays-now s t some (one.1.stays t leads) },
+          record { some = some; mdp = one.1.mdp; stays = λ t leads. stays-now s t some (one.1.stays t leads) },
         );
     joined = λ s t some is.
         let comes : Comes q replies class s t =

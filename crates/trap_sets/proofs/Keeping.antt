@@ -20,7 +20,7 @@ pub ends-internal : (q : Query) (replies : List (Option ℕ)) (part : List ℕ) 
     → c < length (choices_of q.game s) → listed s c ≡ true → IsInternal q replies part s c
 ends-internal q replies part member listed s c h component in' lc chosen = record {
   some = h.kept member listed component s in';
-  cut = component.cut s c in' lc chosen;
+  mdp = component.mdp s c in' lc chosen;
   stays = λ t leads. h.joined member listed component t s (component.closed s c t in' lc chosen leads) in';
 }
 

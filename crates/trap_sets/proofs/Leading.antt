@@ -13,7 +13,7 @@ use Rattle.game_model.specs.Query.{Query, IsQuery, states}
 use Rattle.predecessors.specs.declared.lists.Move.{Move}
 use Rattle.predecessors.specs.Moves.{LeadsTo}
 use Rattle.predecessors.proofs.Listed.{listed-exactly}
-use Rattle.trap_sets.specs.declared.cut.Cut.{Cut}
+use Rattle.trap_sets.specs.declared.reply_mdp.ReplyMdp.{ReplyMdp}
 use Rattle.trap_sets.specs.Ends.{numbered}
 use Rattle.trap_sets.specs.Moves.{Leads}
 use Rattle.trap_sets.specs.inside.Parts.{Stays, Leaves}
@@ -34,11 +34,11 @@ leads-listed q s c t to game is same h =
     (at.0, at.1, get_or_default to at.0 0 t at.1 ∙ at.2)
 
 -- a move in the list of a state leads to it
-pub listed-move : (cut : Cut) (items : List Move) (t i : ℕ) (d : Move) → t < states cut.question.now
-    → items ≡ slice_index_or cut.predecessors.now t [] → i < length items
-    → LeadsTo cut.question.now.game (get_or items i d).state (get_or items i d).choice t
-listed-move cut items t i d inside same l =
-    (listed-exactly cut.lists (get_or items i d).state (get_or items i d).choice t inside).0
+pub listed-move : (mdp : ReplyMdp) (items : List Move) (t i : ℕ) (d : Move) → t < states mdp.question.now
+    → items ≡ slice_index_or mdp.predecessors.now t [] → i < length items
+    → LeadsTo mdp.question.now.game (get_or items i d).state (get_or items i d).choice t
+listed-move mdp items t i d inside same l =
+    (listed-exactly mdp.lists (get_or items i d).state (get_or items i d).choice t inside).0
     (subst (λ (xs : List Move). Contains xs (get_or items i d)) same (Contains-get_or items i d l))
 
 -- an edge of a choice that leads to a state

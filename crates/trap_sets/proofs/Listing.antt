@@ -14,26 +14,26 @@ use Rattle.trap_sets.specs.Moves.{Walk}
 use Rattle.trap_sets.specs.Ends.{IsMove, numbered}
 use Rattle.trap_sets.specs.inside.Parts.{IsInternal, IsStep}
 
-cut-test : Side → Option ℕ → ℕ → Bool
-cut-test Max reply c = true
-cut-test Min None c = false
-cut-test Min (Some d) c = d == c
+mdp-test : Side → Option ℕ → ℕ → Bool
+mdp-test Max reply c = true
+mdp-test Min None c = false
+mdp-test Min (Some d) c = d == c
 
-cut-test-true : (side : Side) (reply : Option ℕ) (c : ℕ) → (side ≡ Min → reply ≡ Some c) → cut-test side reply c ≡ true
-unfolding cut-test
-cut-test-true Max reply c h = refl
-cut-test-true Min None c h = let e : None ≡ Some c = h refl in absurd (cc)
-cut-test-true Min (Some d) c h = let e : Some d ≡ Some c = h refl in let f : d ≡ c = cc in eq-eqb d c f
+mdp-test-true : (side : Side) (reply : Option ℕ) (c : ℕ) → (side ≡ Min → reply ≡ Some c) → mdp-test side reply c ≡ true
+unfolding mdp-test
+mdp-test-true Max reply c h = refl
+mdp-test-true Min None c h = let e : None ≡ Some c = h refl in absurd (cc)
+mdp-test-true Min (Some d) c h = let e : Some d ≡ Some c = h refl in let f : d ≡ c = cc in eq-eqb d c f
 
-cut-test-from : (side : Side) (reply : Option ℕ) (c : ℕ) → cut-test side reply c ≡ true → side ≡ Min → reply ≡ Some c
-unfolding cut-test
-cut-test-from Max reply c h least = absurd (cc)
-cut-test-from Min None c h least = absurd (cc)
-cut-test-from Min (Some d) c h least = ap Some (eqb-true d c h)
+mdp-test-from : (side : Side) (reply : Option ℕ) (c : ℕ) → mdp-test side reply c ≡ true → side ≡ Min → reply ≡ Some c
+unfolding mdp-test
+mdp-test-from Max reply c h least = absurd (cc)
+mdp-test-from Min None c h least = absurd (cc)
+mdp-test-from Min (Some d) c h least = ap Some (eqb-true d c h)
 
 -- whether a choice is one of the cut question, and all its successors have the number of its state
 pub listed-by : Query → List (Option ℕ) → List ℕ → ℕ → ℕ → Bool
-listed-by q replies part s c = cut-test (side_at q s) (slice_index_or replies s None) c
+listed-by q replies part s c = mdp-test (side_at q s) (slice_index_or replies s None) c
     && list_all (numbered part (slice_index part s)) (destinations (choice_of q.game s c).edges)
 
 module _ (q : Query) (replies : List (Option ℕ)) (part : List ℕ) (s c : ℕ) where
@@ -42,8 +42,8 @@ module _ (q : Query) (replies : List (Option ℕ)) (part : List ℕ) (s c : ℕ)
 
   pub internal-listed : IsInternal q replies part s c → listed-by q replies part s c ≡ true
   unfolding listed-by
-  internal-listed h = and_from (cut-test (side_at q s) (slice_index_or replies s None) c) _
-      (cut-test-true (side_at q s) (slice_index_or replies s None) c h.cut.replied)
+  internal-listed h = and_from (mdp-test (side_at q s) (slice_index_or replies s None) c) _
+      (mdp-test-true (side_at q s) (slice_index_or replies s None) c h.mdp.replied)
       (list_all-from_AllPass (numbered part (slice_index part s)) to (λ k d l.
       eq-eqb (slice_index part (get_or to k d)) (slice_index part s)
       (h.stays (get_or to k d) (Contains-get_or to k d l))))
@@ -52,9 +52,9 @@ module _ (q : Query) (replies : List (Option ℕ)) (part : List ℕ) (s c : ℕ)
       → IsInternal q replies part s c
   unfolding listed-by
   listed-internal some lc h =
-      let both = and_parts (cut-test (side_at q s) (slice_index_or replies s None) c) _ h in record {
+      let both = and_parts (mdp-test (side_at q s) (slice_index_or replies s None) c) _ h in record {
         some = some;
-        cut = record { inside = lc; replied = cut-test-from (side_at q s) (slice_index_or replies s None) c both.0 };
+        mdp = record { inside = lc; replied = mdp-test-from (side_at q s) (slice_index_or replies s None) c both.0 };
         stays = λ t leads. eqb-true (slice_index part t) (slice_index part s)
             (All-contains (λ u. numbered part (slice_index part s) u ≡ true) to t
             (AllPass-from_list_all (numbered part (slice_index part s)) to both.1) leads);
@@ -68,7 +68,7 @@ walk-listed q replies part (suc n) s t walk =
     let step : IsStep q replies part s walk.0 = walk.1 in
     let move : IsMove q (listed-by q replies part) s walk.0 = record {
       choice = step.choice;
-      inside = step.internal.cut.inside;
+      inside = step.internal.mdp.inside;
       chosen = internal-listed q replies part s step.choice step.internal;
       leads = step.leads;
     } in

@@ -23,25 +23,25 @@ use Rattle.trap_sets.proofs.Walking.{reach-join}
 use Rattle.trap_sets.proofs.Zeros.{within}
 
 module _ (internal : Internal)
-    (h : KeepsEnds internal.cut.question.now internal.cut.replies.now internal.part.now) (rooted : IsRooted internal.part.now) where
+    (h : KeepsEnds internal.mdp.question.now internal.mdp.replies.now internal.part.now) (rooted : IsRooted internal.part.now) where
   -- no end component crosses the marks of a search
   uncrossed : (way : Way) (marks : List Bool) → AreReached internal way marks → (member : ℕ → Bool)
-      (listed : ℕ → ℕ → Bool) → IsEndComponent internal.cut.question.now internal.cut.replies.now member listed → (t u : ℕ)
+      (listed : ℕ → ℕ → Bool) → IsEndComponent internal.mdp.question.now internal.mdp.replies.now member listed → (t u : ℕ)
       → member t ≡ true → member u ≡ true → slice_index_or marks t false ≡ true → slice_index_or marks u false ≡ true
   uncrossed On marks k member listed component t u in' in'' is =
-      let forth : Reach (IsMove internal.cut.question.now listed) t u = component.joined t u in' in'' in
-      closed-on internal marks k forth.0 t u (walk-internal internal.cut.question.now internal.cut.replies.now internal.part.now h
+      let forth : Reach (IsMove internal.mdp.question.now listed) t u = component.joined t u in' in'' in
+      closed-on internal marks k forth.0 t u (walk-internal internal.mdp.question.now internal.mdp.replies.now internal.part.now h
       member listed component forth.0 t u in' forth.1) is
   uncrossed Back marks k member listed component t u in' in'' is =
-      let around : Reach (IsMove internal.cut.question.now listed) u t = component.joined u t in'' in' in
-      closed-back internal marks k around.0 u t (walk-internal internal.cut.question.now internal.cut.replies.now internal.part.now h
+      let around : Reach (IsMove internal.mdp.question.now listed) u t = component.joined u t in'' in' in
+      closed-back internal marks k around.0 u t (walk-internal internal.mdp.question.now internal.mdp.replies.now internal.part.now h
       member listed component around.0 u t in'' around.1) is
 
   -- where a search does not come to a state, its marks break up the part of the state
   pub IsBreak-missed : (way : Way) (marks : List Bool) (s : ℕ) → AreReached internal way marks
       → (slice_index internal.part.now s ≢ 0) × (slice_index_or marks s false ≡ false)
       × ((t : ℕ) → t < s → slice_index internal.part.now t ≢ 0 → slice_index_or marks t false ≡ true)
-      → IsBreak internal.cut.question.now internal.cut.replies.now internal.part.now marks s
+      → IsBreak internal.mdp.question.now internal.mdp.replies.now internal.part.now marks s
   IsBreak-missed way marks s k missed =
       let some : slice_index internal.part.now s ≢ 0 = missed.0 in
       let root : slice_index internal.part.now (root_of internal.part.now s) ≡ slice_index internal.part.now s =
@@ -67,7 +67,7 @@ module _ (internal : Internal)
   pub AreJoined-met : (back on : List Bool) → AreReached internal Back back → AreReached internal On on
       → ((s : ℕ) → slice_index internal.part.now s ≢ 0 → slice_index_or back s false ≡ true)
       → ((s : ℕ) → slice_index internal.part.now s ≢ 0 → slice_index_or on s false ≡ true)
-      → AreJoined internal.cut.question.now internal.cut.replies.now internal.part.now
+      → AreJoined internal.mdp.question.now internal.mdp.replies.now internal.part.now
   AreJoined-met back on k j all-back all-on = λ s t some same.
       let home : Reach (Passes internal Back) (root_of internal.part.now s) s = k.reached.met s (all-back s some) in
       let away : Reach (IsStepOf internal) (root_of internal.part.now t) t =

@@ -6,7 +6,7 @@ use Rattle.game_model.specs.Query.{Query, side_at}
 
 -- A choice is one of the cut question if it is the reply of a state of the minimiser, or any choice of a state of the
 -- maximiser.
-pub record IsCut (q : Query) (replies : List (Option ℕ)) (s c : ℕ) : Type 0 where
+pub record IsReplyMdp (q : Query) (replies : List (Option ℕ)) (s c : ℕ) : Type 0 where
   pub inside : c < length (choices_of q.game s)
   pub replied : side_at q s ≡ Min → slice_index_or replies s None ≡ Some c
 

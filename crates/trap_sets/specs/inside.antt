@@ -2,7 +2,7 @@
 pub mod Parts
 pub mod Settled
 pub mod Breaking
-pub mod OfCut
+pub mod OfReplyMdp
 pub mod OfInternal
 pub mod Reaching
 pub mod Naming

@@ -2,32 +2,32 @@
 
 ghost use Rattle.std.specs.Prelude.{◌≡◌, ℕ, ◌<◌, ◌≤◌, ◌+◌, List, [], ◌∷◌, ◌++◌, length, slice_index, IfOk, OnOk};
 ghost use Rattle.game_model.specs.Limits.{most_states};
-ghost use Rattle.trap_sets.specs.inside.OfCut.{KeepsEndsOf};
+ghost use Rattle.trap_sets.specs.inside.OfReplyMdp.{KeepsEndsOf};
 ghost use Rattle.trap_sets.specs.inside.Parts.{IsRooted};
 ghost use Rattle.trap_sets.specs.inside.Naming.{IsNaming};
 
-use crate::cut::Cut;
+use crate::reply_mdp::ReplyMdp;
 use crate::internal::Internal;
 use game_outside::OutOfMemory;
 use std::alloc::Global;
 
 /// Divides these parts into the components of their internal choices.
-pub fn divided(alloc: Global, cut: &Cut<'_>, part: &[u32]) -> Result<Vec<u32>, OutOfMemory>
-    requires { KeepsEndsOf cut.now part.now }
-    ensures { IfOk result (λ class. KeepsEndsOf cut.now class.items) }
+pub fn divided(alloc: Global, mdp: &ReplyMdp<'_>, part: &[u32]) -> Result<Vec<u32>, OutOfMemory>
+    requires { KeepsEndsOf mdp.now part.now }
+    ensures { IfOk result (λ class. KeepsEndsOf mdp.now class.items) }
 {
-    let internal = Internal::of_parts(alloc, cut, part)?;
+    let internal = Internal::of_parts(alloc, mdp, part)?;
     let class = internal.divided(alloc)?;
     Ok(class)
 }
 
 /// Names each part after its first state. Removal may have taken the state after which it was named.
-pub fn renamed(alloc: Global, cut: &Cut<'_>, part: &[u32]) -> Result<Vec<u32>, OutOfMemory>
-    requires keeps { KeepsEndsOf cut.now part.now }
-    ensures keeps { IfOk result (λ class. KeepsEndsOf cut.now class.items) }
+pub fn renamed(alloc: Global, mdp: &ReplyMdp<'_>, part: &[u32]) -> Result<Vec<u32>, OutOfMemory>
+    requires keeps { KeepsEndsOf mdp.now part.now }
+    ensures keeps { IfOk result (λ class. KeepsEndsOf mdp.now class.items) }
     ensures rooted { IfOk result (λ class. IsRooted class.items) }
 {
-    let _ = cut;
+    let _ = mdp;
     let greatest = greatest_of(part);
     let mut names = vec![in alloc; 0u32; greatest as usize + 1]?;
     let mut class = Vec::new(alloc);

@@ -6,10 +6,10 @@ ghost use Rattle.game_model.specs.Limits.{most_states};
 ghost use Rattle.game_model.specs.Query.{states};
 ghost use Rattle.predecessors.specs.Flags.{AreFlags};
 ghost use Rattle.trap_sets.specs.inside.Parts.{IsInternal};
-ghost use Rattle.trap_sets.specs.inside.OfCut.{states_in};
+ghost use Rattle.trap_sets.specs.inside.OfReplyMdp.{states_in};
 ghost use Rattle.trap_sets.specs.inside.Naming.{IsClass};
 
-use crate::cut::Cut;
+use crate::reply_mdp::ReplyMdp;
 use components::component_numbers;
 use game_outside::OutOfMemory;
 use predecessors::ChoiceFlags;
@@ -19,29 +19,29 @@ use std::alloc::Global;
 /// internal.
 #[derive(Drop)]
 pub struct Internal<'a> {
-    pub cut: Cut<'a>,
+    pub mdp: ReplyMdp<'a>,
     pub part: &'a [u32],
     flags: ChoiceFlags,
-    ghost parted: { length part.now ≡ states cut.question.now },
-    ghost flagged: { AreFlags cut.question.now.game (IsInternal cut.question.now cut.replies.now part.now) flags },
+    ghost parted: { length part.now ≡ states mdp.question.now },
+    ghost flagged: { AreFlags mdp.question.now.game (IsInternal mdp.question.now mdp.replies.now part.now) flags },
 }
 
 impl<'a> Internal<'a> {
     ghost use Rattle.std.specs.Prelude.{ℕ, ◌≤◌, ◌↔◌, IsTrue, IfOk, slice_index};
-    ghost use Rattle.trap_sets.specs.inside.OfCut.{KeepsEndsOf};
+    ghost use Rattle.trap_sets.specs.inside.OfReplyMdp.{KeepsEndsOf};
     ghost use Rattle.trap_sets.specs.inside.OfInternal.{states_of, IsInternalOf};
 
     /// Finds the internal choices of these parts. Each choice is tested once.
-    pub fn of_parts(alloc: Global, cut: &Cut<'a>, part: &'a [u32]) -> Result<Internal<'a>, OutOfMemory>
-        requires { length part.now ≡ states_in cut.now }
-        ensures cut { IfOk result (λ internal. internal.cut ≡ cut.now) }
+    pub fn of_parts(alloc: Global, mdp: &ReplyMdp<'a>, part: &'a [u32]) -> Result<Internal<'a>, OutOfMemory>
+        requires { length part.now ≡ states_in mdp.now }
+        ensures mdp { IfOk result (λ internal. internal.mdp ≡ mdp.now) }
         ensures part { IfOk result (λ internal. internal.part.now ≡ part.now) }
     {
-        let flags = ChoiceFlags::of_game(alloc, cut.question.game(), |state, choice| {
-            cut.is_internal(part, state, choice)
+        let flags = ChoiceFlags::of_game(alloc, mdp.question.game(), |state, choice| {
+            mdp.is_internal(part, state, choice)
         })?;
         Ok(Internal {
-            cut: *cut,
+            mdp: *mdp,
             part,
             flags,
         })
@@ -49,10 +49,10 @@ impl<'a> Internal<'a> {
 
     /// Gives each state with a part the number of its component over the internal choices, counted from 1.
     pub fn divided(&self, alloc: Global) -> Result<Vec<u32>, OutOfMemory>
-        requires { KeepsEndsOf self.now.cut self.now.part.now }
-        ensures { IfOk result (λ class. KeepsEndsOf self.now.cut class.items) }
+        requires { KeepsEndsOf self.now.mdp self.now.part.now }
+        ensures { IfOk result (λ class. KeepsEndsOf self.now.mdp class.items) }
     {
-        let component = component_numbers(alloc, self.cut.question, &self.flags)?;
+        let component = component_numbers(alloc, self.mdp.question, &self.flags)?;
         let mut class = Vec::with_capacity(alloc, component.len())?;
         for place in 0..self.part.len() {
             class.push(class_of(self.part[place], component[place]))?;
@@ -63,10 +63,10 @@ impl<'a> Internal<'a> {
     /// Returns whether a choice is internal.
     pub fn has(&self, state: u32, choice: u32) -> bool
         requires state { state < states_of self.now }
-        requires choice { choice < length (choices_of self.now.cut.question.now.game state) }
+        requires choice { choice < length (choices_of self.now.mdp.question.now.game state) }
         ensures { IsTrue result ↔ IsInternalOf self.now state choice }
     {
-        self.flags.has(self.cut.question.game(), state, choice)
+        self.flags.has(self.mdp.question.game(), state, choice)
     }
 }
 

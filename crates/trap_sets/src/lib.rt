@@ -38,7 +38,7 @@
 mod arena;
 mod breaking;
 mod choices;
-mod cut;
+mod reply_mdp;
 mod divide;
 mod internal;
 mod lower;

@@ -7,9 +7,9 @@ ghost use Rattle.predecessors.specs.Lists.{ArePredecessors};
 ghost use Rattle.trap_sets.specs.Ends.{AreTraps};
 ghost use Rattle.trap_sets.specs.inside.Roots.{AreNumbers, number, roots, roots_below};
 ghost use Rattle.trap_sets.specs.inside.Parts.{IsRooted};
-ghost use Rattle.trap_sets.specs.inside.OfCut.{AreSettledOf};
+ghost use Rattle.trap_sets.specs.inside.OfReplyMdp.{AreSettledOf};
 
-use crate::cut::Cut;
+use crate::reply_mdp::ReplyMdp;
 use crate::rounds::settled_parts;
 use game_model::Question;
 use game_outside::OutOfMemory;
@@ -56,21 +56,21 @@ pub fn traps_over(
     ensures { IfOk result (λ sets. AreTraps question.now replies.now sets.of.items sets.count) }
 {
     question.known();
-    let cut = Cut {
+    let mdp = ReplyMdp {
         question,
         replies,
         predecessors,
     };
-    let part = settled_parts(alloc, &cut)?;
-    numbered(alloc, &cut, &part)
+    let part = settled_parts(alloc, &mdp)?;
+    numbered(alloc, &mdp, &part)
 }
 
 /// Numbers the parts by their least states, which are their roots.
-fn numbered(alloc: Global, cut: &Cut<'_>, part: &[u32]) -> Result<TrapSets, OutOfMemory>
-    requires { AreSettledOf cut.now part.now }
-    ensures { IfOk result (λ sets. AreTraps cut.now.question.now cut.now.replies.now sets.of.items sets.count) }
+fn numbered(alloc: Global, mdp: &ReplyMdp<'_>, part: &[u32]) -> Result<TrapSets, OutOfMemory>
+    requires { AreSettledOf mdp.now part.now }
+    ensures { IfOk result (λ sets. AreTraps mdp.now.question.now mdp.now.replies.now sets.of.items sets.count) }
 {
-    let _ = cut;
+    let _ = mdp;
     let sets = number_all(alloc, part)?;
     Ok(sets)
 }

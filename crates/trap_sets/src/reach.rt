@@ -45,7 +45,7 @@ impl Search {
     fn of_roots(alloc: Global, internal: &Internal<'_>) -> Result<Search, OutOfMemory>
         ensures { IfOk result (λ r. (way : Way) → IsReaching internal.now way r.marks.items r.order.items 0) }
     {
-        let states = internal.cut.question.game().states();
+        let states = internal.mdp.question.game().states();
         let mut marks = Vec::with_capacity(alloc, states as usize)?;
         let mut order = Vec::new(alloc);
         for state in 0..states {
@@ -100,7 +100,7 @@ impl Search {
         ensures passed { OnOk result ((t : ℕ) → IsStepOf internal.now state t
             → slice_index_or self.new.marks.items t false ≡ true) }
     {
-        for choice in 0..internal.cut.question.game().choices_of(state) {
+        for choice in 0..internal.mdp.question.game().choices_of(state) {
             self.follow(internal, Move { state, choice })?;
         }
         Ok(())
@@ -111,7 +111,7 @@ impl Search {
         requires ordered { IsOrder self.old.marks.items self.old.order.items }
         requires many { length self.old.marks.items ≡ states_of internal.now }
         requires state { step.state < states_of internal.now }
-        requires choice { step.choice < length (choices_of internal.now.cut.question.now.game step.state) }
+        requires choice { step.choice < length (choices_of internal.now.mdp.question.now.game step.state) }
         ensures more { OnOk result (IsMore (IsStepOf internal.now step.state) self.old.marks.items self.old.order.items
             self.new.marks.items self.new.order.items) }
         ensures passed { OnOk result (IsInternalOf internal.now step.state step.choice → (t : ℕ)
@@ -121,7 +121,7 @@ impl Search {
             return Ok(());
         }
         for to in internal
-            .cut
+            .mdp
             .question
             .game()
             .successors(step.state, step.choice)
@@ -141,7 +141,7 @@ impl Search {
         ensures passed { OnOk result ((s : ℕ) → IsStepOf internal.now s state
             → slice_index_or self.new.marks.items s false ≡ true) }
     {
-        for step in internal.cut.predecessors.of_state(state) {
+        for step in internal.mdp.predecessors.of_state(state) {
             self.meet(internal, *step)?;
         }
         Ok(())
@@ -152,7 +152,7 @@ impl Search {
         requires ordered { IsOrder self.old.marks.items self.old.order.items }
         requires many { length self.old.marks.items ≡ states_of internal.now }
         requires state { step.state < states_of internal.now }
-        requires choice { step.choice < length (choices_of internal.now.cut.question.now.game step.state) }
+        requires choice { step.choice < length (choices_of internal.now.mdp.question.now.game step.state) }
         ensures more { OnOk result (IsMore (λ s. (s ≡ step.state) × IsInternalOf internal.now step.state step.choice)
             self.old.marks.items self.old.order.items self.new.marks.items self.new.order.items) }
         ensures met { OnOk result (IsInternalOf internal.now step.state step.choice

@@ -1,9 +1,9 @@
 //! This module removes states that have no internal choice, as far as a search finds them.
 
 ghost use Rattle.std.specs.Prelude.{◌≡◌, ◌<◌, length, OnOk};
-ghost use Rattle.trap_sets.specs.inside.OfCut.{states_in, KeepsEndsOf};
+ghost use Rattle.trap_sets.specs.inside.OfReplyMdp.{states_in, KeepsEndsOf};
 
-use crate::cut::Cut;
+use crate::reply_mdp::ReplyMdp;
 use game_outside::OutOfMemory;
 use predecessors::Move;
 use std::alloc::Global;
@@ -11,90 +11,90 @@ use std::alloc::Global;
 /// Takes its part from each state that has no internal choice, and from each that has none left then, and so on. A state
 /// waits for one choice at a time, so each choice is tested three times at most. The contract does not say that all
 /// such states are found. One that is missed goes later.
-pub fn trim(alloc: Global, cut: &Cut<'_>, part: &mut [u32]) -> Result<(), OutOfMemory>
-    requires keeps { KeepsEndsOf cut.now part.old }
-    ensures keeps { OnOk result (KeepsEndsOf cut.now part.new) }
+pub fn trim(alloc: Global, mdp: &ReplyMdp<'_>, part: &mut [u32]) -> Result<(), OutOfMemory>
+    requires keeps { KeepsEndsOf mdp.now part.old }
+    ensures keeps { OnOk result (KeepsEndsOf mdp.now part.new) }
 {
-    let states = cut.question.game().states();
+    let states = mdp.question.game().states();
     let mut awaited = vec![in alloc; 0u32; states as usize]?;
     let mut gone = Vec::new(alloc);
     for state in 0..states {
-        test(cut, state, part, &mut awaited, &mut gone)?;
+        test(mdp, state, part, &mut awaited, &mut gone)?;
     }
     for place in 0..states as usize {
         let Some(member) = gone.get(place).copied() else {
             break;
         };
-        follow_gone(cut, member, part, &mut awaited, &mut gone)?;
+        follow_gone(mdp, member, part, &mut awaited, &mut gone)?;
     }
     Ok(())
 }
 
 /// Tests the states that wait for a choice that leads to this state.
 fn follow_gone(
-    cut: &Cut<'_>,
+    mdp: &ReplyMdp<'_>,
     member: u32,
     part: &mut [u32],
     awaited: &mut [u32],
     gone: &mut Vec<u32>,
 ) -> Result<(), OutOfMemory>
-    requires many { length awaited.old ≡ states_in cut.now }
-    requires keeps { KeepsEndsOf cut.now part.old }
-    ensures many { OnOk result (length awaited.new ≡ states_in cut.now) }
-    ensures keeps { OnOk result (KeepsEndsOf cut.now part.new) }
+    requires many { length awaited.old ≡ states_in mdp.now }
+    requires keeps { KeepsEndsOf mdp.now part.old }
+    ensures many { OnOk result (length awaited.new ≡ states_in mdp.now) }
+    ensures keeps { OnOk result (KeepsEndsOf mdp.now part.new) }
 {
-    if member >= cut.question.game().states() {
+    if member >= mdp.question.game().states() {
         return Ok(());
     }
-    for step in cut.predecessors.of_state(member) {
-        test_again(cut, *step, part, awaited, gone)?;
+    for step in mdp.predecessors.of_state(member) {
+        test_again(mdp, *step, part, awaited, gone)?;
     }
     Ok(())
 }
 
 /// Tests the state of this move, if it waits for its choice.
 fn test_again(
-    cut: &Cut<'_>,
+    mdp: &ReplyMdp<'_>,
     step: Move,
     part: &mut [u32],
     awaited: &mut [u32],
     gone: &mut Vec<u32>,
 ) -> Result<(), OutOfMemory>
-    requires state { step.state < states_in cut.now }
-    requires many { length awaited.old ≡ states_in cut.now }
-    requires keeps { KeepsEndsOf cut.now part.old }
-    ensures many { OnOk result (length awaited.new ≡ states_in cut.now) }
-    ensures keeps { OnOk result (KeepsEndsOf cut.now part.new) }
+    requires state { step.state < states_in mdp.now }
+    requires many { length awaited.old ≡ states_in mdp.now }
+    requires keeps { KeepsEndsOf mdp.now part.old }
+    ensures many { OnOk result (length awaited.new ≡ states_in mdp.now) }
+    ensures keeps { OnOk result (KeepsEndsOf mdp.now part.new) }
 {
     if awaited[step.state as usize] != step.choice {
         return Ok(());
     }
-    test(cut, step.state, part, awaited, gone)
+    test(mdp, step.state, part, awaited, gone)
 }
 
 /// Tests a state from its awaited choice on. The state waits for the next internal choice, and loses its part if it has
 /// none at all.
 fn test(
-    cut: &Cut<'_>,
+    mdp: &ReplyMdp<'_>,
     state: u32,
     part: &mut [u32],
     awaited: &mut [u32],
     gone: &mut Vec<u32>,
 ) -> Result<(), OutOfMemory>
-    requires state { state < states_in cut.now }
-    requires many { length awaited.old ≡ states_in cut.now }
-    requires keeps { KeepsEndsOf cut.now part.old }
-    ensures many { OnOk result (length awaited.new ≡ states_in cut.now) }
-    ensures keeps { OnOk result (KeepsEndsOf cut.now part.new) }
+    requires state { state < states_in mdp.now }
+    requires many { length awaited.old ≡ states_in mdp.now }
+    requires keeps { KeepsEndsOf mdp.now part.old }
+    ensures many { OnOk result (length awaited.new ≡ states_in mdp.now) }
+    ensures keeps { OnOk result (KeepsEndsOf mdp.now part.new) }
 {
     let place = state as usize;
     if part[place] == 0 {
         return Ok(());
     }
-    let choices = cut.question.game().choices_of(state);
-    let next = cut.next_internal(part, state, awaited[place].min(choices));
+    let choices = mdp.question.game().choices_of(state);
+    let next = mdp.next_internal(part, state, awaited[place].min(choices));
     awaited[place] = next;
-    if next < choices || cut.next_internal(part, state, 0) < choices {
+    if next < choices || mdp.next_internal(part, state, 0) < choices {
         return Ok(());
     }
     part[place] = 0;

@@ -7,16 +7,16 @@ use Rattle.trap_sets.specs.inside.Parts.{IsInternal, IsStep}
 
 -- This is the number of states of the cut question.
 abbrev pub states_of : Internal → ℕ
-states_of internal = states internal.cut.question.now
+states_of internal = states internal.mdp.question.now
 
 -- Choice c of state s leads to state t.
 abbrev pub LeadsOf : Internal → ℕ → ℕ → ℕ → Type 0
-LeadsOf internal = Leads internal.cut.question.now
+LeadsOf internal = Leads internal.mdp.question.now
 
 -- A choice of the cut question at a state with a part has all its successors in that part.
 abbrev pub IsInternalOf : Internal → ℕ → ℕ → Type 0
-IsInternalOf internal = IsInternal internal.cut.question.now internal.cut.replies.now internal.part.now
+IsInternalOf internal = IsInternal internal.mdp.question.now internal.mdp.replies.now internal.part.now
 
 -- An internal choice of the first state leads to the second.
 abbrev pub IsStepOf : Internal → ℕ → ℕ → Type 0
-IsStepOf internal = IsStep internal.cut.question.now internal.cut.replies.now internal.part.now
+IsStepOf internal = IsStep internal.mdp.question.now internal.mdp.replies.now internal.part.now

@@ -1,7 +1,7 @@
 -- This module defines parts of the states, and the choices that stay in them.
 use Rattle.std.specs.Prelude.{◌≡◌, ◌≢◌, ℕ, ◌+◌, ◌-◌, ◌<◌, ◌≤◌, List, slice_index, Option}
 use Rattle.game_model.specs.Query.{Query, states}
-use Rattle.trap_sets.specs.Moves.{IsCut, Leads, Reach}
+use Rattle.trap_sets.specs.Moves.{IsReplyMdp, Leads, Reach}
 
 -- Each successor of the choice has the same number as the state of the choice.
 abbrev pub Stays : Query → List ℕ → ℕ → ℕ → Type 0
@@ -14,7 +14,7 @@ Leaves q of s c = (t : ℕ) × Leads q s c t × (slice_index of t ≢ slice_inde
 -- A choice of the cut question at a state with a part has all its successors in that part.
 pub record IsInternal (q : Query) (replies : List (Option ℕ)) (part : List ℕ) (s c : ℕ) : Type 0 where
   pub some : slice_index part s ≢ 0
-  pub cut : IsCut q replies s c
+  pub mdp : IsReplyMdp q replies s c
   pub stays : Stays q part s c
 
 -- An internal choice of the first state leads to the second.

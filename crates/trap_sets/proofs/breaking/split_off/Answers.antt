@@ -36,7 +36,7 @@ loop-place-preserved c =
 
 pub returns : goal.returns
 returns c =
-    let split = split-all c.args.cut.now.question.now c.args.cut.now.replies.now c.args.part.now c.args.marks.now
+    let split = split-all c.args.mdp.now.question.now c.args.mdp.now.replies.now c.args.part.now c.args.marks.now
     c.args.state c.loop-place.place c.loop-place.part c.requires.keeps c.requires.rooted c.requires.breaks
     (omega (arith, c.loop-place-test.false, c.loop-place.invariant.split.many)) c.loop-place.invariant.split in
     record { keeps = split.0; rooted = split.1; more = split.2 }

@@ -17,9 +17,9 @@ name_all-requires-clause-naming c =
 
 pub returns-clause-keeps : goal.returns-clause-keeps
 returns-clause-keeps c =
-    let cut = c.args.cut.now in
+    let mdp = c.args.mdp.now in
     let part = c.args.part.now in
-    KeepsEnds-renamed cut.question.now cut.replies.now part c.name_all.new.names c.name_all.new.class.items
+    KeepsEnds-renamed mdp.question.now mdp.replies.now part c.name_all.new.names c.name_all.new.class.items
     c.requires.keeps (subst (IsNaming part c.name_all.new.names c.name_all.new.class.items)
     c.requires.keeps.many c.in_ok-name_all.ensures)
 

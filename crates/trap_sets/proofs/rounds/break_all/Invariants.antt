@@ -7,9 +7,9 @@ use Rattle.trap_sets.proofs.rounds.break_all.Given as goal
 
 abbrev pub invariant-loop-breaks : goal.invariant-loop-breaks
 invariant-loop-breaks l = record {
-  keeps : KeepsEnds l.cut.question.now l.cut.replies.now l.part;
+  keeps : KeepsEnds l.mdp.question.now l.mdp.replies.now l.part;
   rooted : IsRooted l.part;
-  joined : l.breaks ≡ false → AreJoined l.cut.question.now l.cut.replies.now l.part;
+  joined : l.breaks ≡ false → AreJoined l.mdp.question.now l.mdp.replies.now l.part;
 }
 
 abbrev pub decreases-loop-breaks : goal.decreases-loop-breaks

@@ -7,7 +7,7 @@ returns-else-next_internal-choices_of c = inl (
   refl,
   λ d internal. c.next_internal.ensures.before d (omega arith) (omega (
     arith,
-    internal.cut.inside,
+    internal.mdp.inside,
     c.if-next_internal-choices_of.false,
     c.choices_of.ensures,
     ap (λ g. length (choices_of g c.args.state)) c.game.ensures,

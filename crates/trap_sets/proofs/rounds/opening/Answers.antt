@@ -13,7 +13,7 @@ loop-state-preserved c = IsEach-push _ _ _ c.opening_part.result c.loop-state.st
 pub returns : goal.returns
 returns c =
     let h = c.loop-state.invariant in
-    let all : c.loop-state.state ≡ states c.args.cut.now.question.now =
+    let all : c.loop-state.state ≡ states c.args.mdp.now.question.now =
     omega (arith, c.loop-state-test.false, c.states-state-end.ensures, ap length c.game.ensures) in record {
       many = h.many ∙ all;
       free = λ s ls. (h.each s (omega (arith, ls, all))).free;

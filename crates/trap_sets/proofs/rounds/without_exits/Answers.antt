@@ -15,8 +15,8 @@ loop-state-preserved c = IsEach-push _ _ _ c.kept_part.result c.loop-state.state
 
 pub returns : goal.returns
 returns c =
-    let q = c.args.cut.now.question.now in
-    let replies = c.args.cut.now.replies.now in
+    let q = c.args.mdp.now.question.now in
+    let replies = c.args.mdp.now.replies.now in
     let kept = c.loop-state.kept.items in
     let all : c.loop-state.state ≡ states q =
     omega (arith, c.loop-state-test.false, c.states-states.ensures, ap length c.game.ensures) in

@@ -25,13 +25,13 @@ loop-place-preserved c =
 pub returns : goal.returns
 returns c =
     let internal = c.args.self.now in
-    let q = internal.cut.question.now in
+    let q = internal.mdp.question.now in
     let component = c.in_ok-component.component.items in
     let class = c.loop-place.class.items in
     let all : c.loop-place.place ≡ states q = omega (arith, c.loop-place-test.false, internal.parted) in
-    KeepsEnds-classes q internal.cut.replies.now internal.part.now c.requires component (λ s d t ls is leads.
+    KeepsEnds-classes q internal.mdp.replies.now internal.part.now c.requires component (λ s d t ls is leads.
     let at = leads-edge q s d t leads in
     subst (λ u. slice_index component u ≤ slice_index component s) at.2 (c.in_ok-component.ensures.order s ls d
-    is.cut.inside ((internal.flagged.each s d ls is.cut.inside).1 is) at.0 at.1)) class
+    is.mdp.inside ((internal.flagged.each s d ls is.mdp.inside).1 is) at.0 at.1)) class
     (subst (IsEach (λ s. IsClass (slice_index internal.part.now s) (slice_index component s)) class) all
     c.loop-place.invariant)

@@ -9,7 +9,7 @@ use Rattle.trap_sets.proofs.reach.Search.follow.Goals as goal
 pub add-requires-clause-state : goal.add-requires-clause-state
 add-requires-clause-state c =
     let internal = c.args.internal.now in
-    let q = internal.cut.question.now in
+    let q = internal.mdp.question.now in
     let s = c.args.step.state in
     let d = c.args.step.choice in
     let t : ℕ = slice_index c.successors-to-items.result.now c.loop-to.to-index in
@@ -17,7 +17,7 @@ add-requires-clause-state c =
     listed-leads q s d c.loop-to.to-index _ _ c.successors-to-items.ensures c.game.ensures c.loop-to-test.true in
     omega (
       arith,
-      leads-inside q s d t internal.cut.posed c.requires.state c.requires.choice leads,
+      leads-inside q s d t internal.mdp.posed c.requires.state c.requires.choice leads,
       c.loop-to.invariant.more.many,
       c.requires.many,
     )
@@ -25,7 +25,7 @@ add-requires-clause-state c =
 pub loop-to-preserved : goal.loop-to-preserved
 loop-to-preserved c =
     let internal = c.args.internal.now in
-    let q = internal.cut.question.now in
+    let q = internal.mdp.question.now in
     let s = c.args.step.state in
     let d = c.args.step.choice in
     let t : ℕ = slice_index c.successors-to-items.result.now c.loop-to.to-index in
@@ -49,7 +49,7 @@ loop-to-preserved c =
 
 pub returns-clause-passed : goal.returns-clause-passed
 returns-clause-passed c = λ holds t leads.
-    let q = c.args.internal.now.cut.question.now in
+    let q = c.args.internal.now.mdp.question.now in
     let s = c.args.step.state in
     let d = c.args.step.choice in
     let at = leads-listed q s d t _ _ c.successors-to-items.ensures c.game.ensures leads in

@@ -12,12 +12,12 @@ use Rattle.trap_sets.proofs.reach.Search.go_back.Goals as goal
 
 pub meet-requires-clause-state : goal.meet-requires-clause-state
 meet-requires-clause-state c =
-    (listed-move c.args.internal.now.cut c.of_state-step-items.result.now c.args.state c.loop-step.step-index
+    (listed-move c.args.internal.now.mdp c.of_state-step-items.result.now c.args.state c.loop-step.step-index
     (move 0 0) c.requires.state c.of_state-step-items.ensures c.loop-step-test.true).state
 
 pub meet-requires-clause-choice : goal.meet-requires-clause-choice
 meet-requires-clause-choice c =
-    (listed-move c.args.internal.now.cut c.of_state-step-items.result.now c.args.state c.loop-step.step-index
+    (listed-move c.args.internal.now.mdp c.of_state-step-items.result.now c.args.state c.loop-step.step-index
     (move 0 0) c.requires.state c.of_state-step-items.ensures c.loop-step-test.true).choice
 
 pub loop-step-preserved : goal.loop-step-preserved
@@ -26,7 +26,7 @@ loop-step-preserved c =
     let state = c.args.state in
     let items = c.of_state-step-items.result.now in
     let m : Move = get_or items c.loop-step.step-index (move 0 0) in
-    let leads : LeadsTo internal.cut.question.now.game m.state m.choice state = listed-move internal.cut items state
+    let leads : LeadsTo internal.mdp.question.now.game m.state m.choice state = listed-move internal.mdp items state
     c.loop-step.step-index (move 0 0) c.requires.state c.of_state-step-items.ensures c.loop-step-test.true in
     let Met : List Bool → Move → Type 0 =
     λ marks x. IsInternalOf internal x.state x.choice → slice_index_or marks x.state false ≡ true in
@@ -52,11 +52,11 @@ returns-clause-passed c = λ s step.
     let items = c.of_state-step-items.result.now in
     let Met : Move → Type 0 = λ x. IsInternalOf internal x.state x.choice
     → slice_index_or c.loop-step.self.marks.items x.state false ≡ true in
-    let leads : LeadsTo internal.cut.question.now.game s step.choice state =
-    record { state = step.state; choice = step.internal.cut.inside; successor = step.leads } in
+    let leads : LeadsTo internal.mdp.question.now.game s step.choice state =
+    record { state = step.state; choice = step.internal.mdp.inside; successor = step.leads } in
     let in' : Contains items (move s step.choice) = subst (λ (xs : List Move). Contains xs (move s step.choice))
     (sym c.of_state-step-items.ensures)
-    ((listed-exactly internal.cut.lists s step.choice state c.requires.state).1 leads) in
+    ((listed-exactly internal.mdp.lists s step.choice state c.requires.state).1 leads) in
     let all : length items ≤ c.loop-step.step-index = omega (arith, c.loop-step-test.false) in
     All-contains Met items (move s step.choice)
     (subst (All Met) (take_all c.loop-step.step-index items all) c.loop-step.invariant.met) in' step.internal

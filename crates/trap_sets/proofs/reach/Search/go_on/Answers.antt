@@ -21,7 +21,7 @@ loop-choice-preserved c =
 pub returns-clause-passed : goal.returns-clause-passed
 returns-clause-passed c = λ t step. c.loop-choice.invariant.met step.choice t (omega (
   arith,
-  step.internal.cut.inside,
+  step.internal.mdp.inside,
   c.loop-choice-test.false,
   c.choices_of-choice-end.ensures,
   ap (λ g. length (choices_of g c.args.state)) c.game.ensures,

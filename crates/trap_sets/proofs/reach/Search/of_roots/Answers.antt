@@ -32,7 +32,7 @@ loop-state-preserved c = record {
 
 pub returns : goal.returns
 returns c =
-    let all : c.loop-state.state ≡ length c.args.internal.now.cut.question.now.game =
+    let all : c.loop-state.state ≡ length c.args.internal.now.mdp.question.now.game =
     omega (arith, c.loop-state-test.false, c.states-states.ensures, ap length c.game.ensures) in
     λ way. IsReaching-roots c.args.internal.now way c.loop-state.marks.items c.loop-state.order.items
     (c.loop-state.invariant.many ∙ all) (λ s ls. c.loop-state.invariant.each s (omega (arith, ls, all)))

@@ -10,7 +10,7 @@ use predecessors::Predecessors;
 
 /// In the cut question each state of the minimiser has only its reply. It comes with the moves that lead to each state.
 #[derive(Clone, Copy)]
-pub struct Cut<'a> {
+pub struct ReplyMdp<'a> {
     pub question: &'a Question<'a>,
     pub replies: &'a [Option<u32>],
     pub predecessors: &'a Predecessors,
@@ -19,17 +19,17 @@ pub struct Cut<'a> {
     ghost lists: { ArePredecessors question.now.game predecessors.now },
 }
 
-impl Cut<'_> {
+impl ReplyMdp<'_> {
     ghost use Rattle.std.specs.Prelude.{ℕ, ◌<◌, ◌≤◌, ◌↔◌, IsTrue};
     ghost use Rattle.game_model.specs.Game.{choices_of};
-    ghost use Rattle.trap_sets.specs.Moves.{IsCut};
-    ghost use Rattle.trap_sets.specs.inside.OfCut.{states_in, IsInternalIn};
+    ghost use Rattle.trap_sets.specs.Moves.{IsReplyMdp};
+    ghost use Rattle.trap_sets.specs.inside.OfReplyMdp.{states_in, IsInternalIn};
 
     /// Returns whether a choice is one of the cut question. A state of the minimiser has only its reply.
     fn has(&self, state: u32, choice: u32) -> bool
         requires state { state < states_in self.now }
         requires choice { choice < length (choices_of self.now.question.now.game state) }
-        ensures { IsTrue result ↔ IsCut self.now.question.now self.now.replies.now state choice }
+        ensures { IsTrue result ↔ IsReplyMdp self.now.question.now self.now.replies.now state choice }
     {
         match self.question.side(state) {
             Side::Max => true,

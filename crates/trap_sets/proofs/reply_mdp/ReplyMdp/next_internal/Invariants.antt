@@ -1,6 +1,6 @@
 use Rattle.std.proofs.Common.{ℕ, ◌<◌, ◌≤◌}
 use Rattle.trap_sets.specs.inside.Parts.{IsInternal}
-use Rattle.trap_sets.proofs.cut.Cut.next_internal.Given as goal
+use Rattle.trap_sets.proofs.reply_mdp.ReplyMdp.next_internal.Given as goal
 
 abbrev pub invariant-loop-choice : goal.invariant-loop-choice
 invariant-loop-choice l =

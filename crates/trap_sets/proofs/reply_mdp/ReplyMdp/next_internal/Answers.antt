@@ -1,7 +1,7 @@
 use Rattle.std.proofs.Common.{◌≡◌, true, arith, subst, inl, inr}
 use Rattle.std.proofs.lemmas.Bool.{cases_eq, both_ways}
 use Rattle.trap_sets.specs.inside.Parts.{IsInternal}
-use Rattle.trap_sets.proofs.cut.Cut.next_internal.Goals as goal
+use Rattle.trap_sets.proofs.reply_mdp.ReplyMdp.next_internal.Goals as goal
 
 pub loop-choice-preserved : goal.loop-choice-preserved
 loop-choice-preserved c = λ k from below internal. elim (cases_eq k c.loop-choice.choice) [
