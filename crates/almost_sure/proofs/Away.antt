@@ -24,7 +24,7 @@ use Rattle.attractors.specs.Attractor.{meets, serves, attracts, is_attracted, Is
 use Rattle.attractors.proofs.Tests.{any-none, all-place}
 use Rattle.attractors.proofs.Meeting.{meets-successor}
 use Rattle.attractors.proofs.Serving.{serves-not}
-use Rattle.attractors.proofs.Grown.{Grew-goals}
+use Rattle.attractors.proofs.Searching.{Grew-goals}
 use Rattle.almost_sure.specs.Values.{IsAway}
 use Rattle.almost_sure.specs.Barred.{gone_barred}
 use Rattle.almost_sure.proofs.Powers.{pow-suc_left, pow-suc_both, pow-more}

@@ -15,15 +15,15 @@ use Rattle.predecessors.specs.Moves.{move, LeadsTo}
 use Rattle.predecessors.specs.Lists.{ArePredecessors}
 use Rattle.predecessors.proofs.Listed.{listed-exactly}
 use Rattle.attractors.specs.Attractor.{Barred, meets, is_attracted, AreGoals, from_goals, IsAttractor}
-use Rattle.attractors.specs.Growing.{moves_into, LeadsIn, IsOrder, IsLeft, IsGrowth}
+use Rattle.attractors.specs.Search.{moves_into, LeadsIn, IsOrder, IsLeft, IsAttractorSearch}
 use Rattle.attractors.proofs.Meeting.{meets-successor, destination-at}
 use Rattle.attractors.proofs.Serving.{serves-both, unserved-by, left-by-none, left-by-one}
 
 -- the goals alone have grown from no move
-pub IsGrowth-goals : (q : Query) (barred : Barred) (members : List Bool) (awaited order : List ℕ)
+pub IsAttractorSearch-goals : (q : Query) (barred : Barred) (members : List Bool) (awaited order : List ℕ)
     → IsQuery q → AreGoals q members → IsOrder members order → awaited ≡ replicate (states q) 0
-    → IsGrowth q barred [] members awaited order
-IsGrowth-goals q barred members awaited order posed goals ordered first = record {
+    → IsAttractorSearch q barred [] members awaited order
+IsAttractorSearch-goals q barred members awaited order posed goals ordered first = record {
   many = goals.many;
   as_many = ap length first ∙ length-replicate (states q) 0;
   ordered = ordered;
@@ -56,7 +56,7 @@ Contains-moves_into lists (t ∷ order) u m (suc k, l, same) listed =
 -- a choice that meets the members has been followed, once all moves to members have
 all-followed : (q : Query) (barred : Barred) (lists : List (List Move)) (members : List Bool)
     (awaited order : List ℕ) (s c : ℕ) → IsQuery q → ArePredecessors q.game lists
-    → IsGrowth q barred (moves_into lists order) members awaited order → s < states q → c < length (choices_of q.game s)
+    → IsAttractorSearch q barred (moves_into lists order) members awaited order → s < states q → c < length (choices_of q.game s)
     → meets members (choice_of q.game s c) ≡ true → Contains (moves_into lists order) (move s c)
 all-followed q barred lists members awaited order s c posed are h ls lc meet =
     let one : (k : ℕ) × (k < length (choice_of q.game s c).edges)
@@ -72,7 +72,7 @@ all-followed q barred lists members awaited order s c posed are h ls lc meet =
 -- and then the side of a state that is left is not attracted
 side-left : (q : Query) (barred : Barred) (lists : List (List Move)) (members : List Bool)
     (awaited order : List ℕ) (s : ℕ) (side : Side) → side_at q s ≡ side → IsQuery q → ArePredecessors q.game lists
-    → IsGrowth q barred (moves_into lists order) members awaited order → s < states q
+    → IsAttractorSearch q barred (moves_into lists order) members awaited order → s < states q
     → IsLeft q barred (moves_into lists order) members awaited s → is_attracted q barred members s ≡ false
 side-left q barred lists members awaited order s Max is_side posed are h l left =
     left-by-none q barred members s is_side (λ c lc serve.
@@ -88,7 +88,7 @@ side-left q barred lists members awaited order s Min is_side posed are h l left 
 -- and no other state is
 pub IsAttractor-grown : (q : Query) (barred : Barred) (lists : List (List Move))
     (members : List Bool) (awaited order : List ℕ) → IsQuery q → ArePredecessors q.game lists
-    → IsGrowth q barred (moves_into lists order) members awaited order → IsAttractor q barred members
+    → IsAttractorSearch q barred (moves_into lists order) members awaited order → IsAttractor q barred members
 IsAttractor-grown q barred lists members awaited order posed are h = record {
   many = h.many;
   grew = h.grew;

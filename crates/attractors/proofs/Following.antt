@@ -12,7 +12,7 @@ use Rattle.game_model.specs.Query.{Query, states, side_at}
 use Rattle.predecessors.specs.declared.lists.Move.{Move}
 use Rattle.predecessors.specs.Moves.{move}
 use Rattle.attractors.specs.Attractor.{Barred, meets, serves, is_attracted, with_state}
-use Rattle.attractors.specs.Growing.{LeadsIn, Awaits, IsLeft, IsGrowth}
+use Rattle.attractors.specs.Search.{LeadsIn, Awaits, IsLeft, IsAttractorSearch}
 use Rattle.attractors.proofs.Meeting.{meets-at, meets-more}
 use Rattle.attractors.proofs.Ordering.{IsOrder-joins, stays-member}
 use Rattle.attractors.proofs.Serving.{serves-both, serves-by, attracts-one, attracts-all}
@@ -36,13 +36,13 @@ serves-more barred set more q s c larger h =
     serves-by barred more (choice_of q.game s c) both.0 (meets-more set more (choice_of q.game s c) larger both.1)
 
 -- a state of the minimiser waits for another choice from now on
-pub IsGrowth-awaits : (q : Query) (barred : Barred) (followed : List Move) (members : List Bool)
-    (awaited order : List ℕ) (t next : ℕ) → IsGrowth q barred followed members awaited order
+pub IsAttractorSearch-awaits : (q : Query) (barred : Barred) (followed : List Move) (members : List Bool)
+    (awaited order : List ℕ) (t next : ℕ) → IsAttractorSearch q barred followed members awaited order
     → t < states q → side_at q t ≡ Min → next < length (choices_of q.game t)
     → ((c : ℕ) → c < next → serves barred members (choice_of q.game t c) ≡ true)
     → serves barred members (choice_of q.game t next) ≡ false
-    → IsGrowth q barred followed members (set awaited t next) order
-IsGrowth-awaits q barred followed members awaited order t next h inside minimiser within before unserved =
+    → IsAttractorSearch q barred followed members (set awaited t next) order
+IsAttractorSearch-awaits q barred followed members awaited order t next h inside minimiser within before unserved =
     let at : slice_index (set awaited t next) t ≡ next =
     get_or-set_same awaited t next 0 (omega (arith, inside, h.as_many)) in
     let new : Awaits q barred followed members t next = record {
@@ -77,11 +77,11 @@ IsGrowth-awaits q barred followed members awaited order t next h inside minimise
     }
 
 -- a state that is attracted joins
-pub IsGrowth-member : (q : Query) (barred : Barred) (followed : List Move) (members : List Bool)
-    (awaited order : List ℕ) (t : ℕ) → IsGrowth q barred followed members awaited order → t < states q
+pub IsAttractorSearch-member : (q : Query) (barred : Barred) (followed : List Move) (members : List Bool)
+    (awaited order : List ℕ) (t : ℕ) → IsAttractorSearch q barred followed members awaited order → t < states q
     → slice_index_or members t false ≡ false → barred.states t ≡ false → is_attracted q barred members t ≡ true
-    → IsGrowth q barred followed (set members t true) awaited (order ++ t ∷ [])
-IsGrowth-member q barred followed members awaited order t h inside out within drawn =
+    → IsAttractorSearch q barred followed (set members t true) awaited (order ++ t ∷ [])
+IsAttractorSearch-member q barred followed members awaited order t h inside out within drawn =
     let place : t < length members = omega (arith, inside, h.many) in
     let larger : (s : ℕ) → slice_index_or members s false ≡ true → slice_index_or (set members t true) s false ≡ true =
     λ s member. stays-member members t s place member in
@@ -122,7 +122,7 @@ before-next q barred members t choice next old passed c l = elim (cases_lt c cho
 ]
 
 module _ (q : Query) (barred : Barred) (followed : List Move) (members : List Bool) (awaited order : List ℕ) (m : Move)
-    (leads : LeadsIn q.game members m) (h : IsGrowth q barred followed members awaited order) where
+    (leads : LeadsIn q.game members m) (h : IsAttractorSearch q barred followed members awaited order) where
   meets-here : meets members (choice_of q.game m.state m.choice) ≡ true
   meets-here = meets-at members (choice_of q.game m.state m.choice) leads.to leads.leads.successor leads.member
 
@@ -156,11 +156,11 @@ module _ (q : Query) (barred : Barred) (followed : List Move) (members : List Bo
 
   -- a move that changes nothing: its state is a member or gone, its choice barred, or its state one of the minimiser
   -- that waits for another choice
-  pub IsGrowth-noted : (slice_index_or members m.state false ≡ false
+  pub IsAttractorSearch-noted : (slice_index_or members m.state false ≡ false
       → barred.states m.state ≡ false → barred.choices (choice_of q.game m.state m.choice) ≡ false
       → (side_at q m.state ≡ Min) × (slice_index awaited m.state ≢ m.choice))
-      → IsGrowth q barred (followed ++ m ∷ []) members awaited order
-  IsGrowth-noted idle = record {
+      → IsAttractorSearch q barred (followed ++ m ∷ []) members awaited order
+  IsAttractorSearch-noted idle = record {
     many = h.many;
     as_many = h.as_many;
     ordered = h.ordered;
@@ -215,35 +215,35 @@ module _ (q : Query) (barred : Barred) (followed : List Move) (members : List Bo
       (passed-here out within minimiser is_awaited stays (length (choices_of q.game m.state)) passed)
 
 -- the state of the move joins
-pub IsGrowth-joins : (q : Query) (barred : Barred) (followed : List Move)
+pub IsAttractorSearch-joins : (q : Query) (barred : Barred) (followed : List Move)
     (members : List Bool) (awaited order : List ℕ) (m : Move) → LeadsIn q.game members m
-    → IsGrowth q barred followed members awaited order → slice_index_or members m.state false ≡ false
+    → IsAttractorSearch q barred followed members awaited order → slice_index_or members m.state false ≡ false
     → barred.states m.state ≡ false → is_attracted q barred members m.state ≡ true
-    → IsGrowth q barred (followed ++ m ∷ []) (set members m.state true) awaited (order ++ m.state ∷ [])
-IsGrowth-joins q barred followed members awaited order m leads h out within drawn =
+    → IsAttractorSearch q barred (followed ++ m ∷ []) (set members m.state true) awaited (order ++ m.state ∷ [])
+IsAttractorSearch-joins q barred followed members awaited order m leads h out within drawn =
     let inside : m.state < length members = omega (arith, leads.leads.state, h.many) in
     let leads' : LeadsIn q.game (set members m.state true) m =
     record { to = leads.to; leads = leads.leads; member = stays-member members m.state leads.to inside leads.member } in
-    IsGrowth-noted q barred followed (set members m.state true) awaited (order ++ m.state ∷ []) m leads'
-    (IsGrowth-member q barred followed members awaited order m.state h leads.leads.state out within drawn)
+    IsAttractorSearch-noted q barred followed (set members m.state true) awaited (order ++ m.state ∷ []) m leads'
+    (IsAttractorSearch-member q barred followed members awaited order m.state h leads.leads.state out within drawn)
     (λ out' within' stays. let member : slice_index_or (set members m.state true) m.state false ≡ true =
     get_or-set_same members m.state true false inside in absurd (cc))
 
 -- the state of the move waits for another choice
-pub IsGrowth-waits : (q : Query) (barred : Barred) (followed : List Move) (members : List Bool) (awaited order : List ℕ)
-    (m : Move) (next : ℕ) → LeadsIn q.game members m → IsGrowth q barred followed members awaited order
+pub IsAttractorSearch-waits : (q : Query) (barred : Barred) (followed : List Move) (members : List Bool) (awaited order : List ℕ)
+    (m : Move) (next : ℕ) → LeadsIn q.game members m → IsAttractorSearch q barred followed members awaited order
     → slice_index_or members m.state false ≡ false → barred.states m.state ≡ false → side_at q m.state ≡ Min
     → slice_index awaited m.state ≡ m.choice → barred.choices (choice_of q.game m.state m.choice) ≡ false
     → m.choice < next → next < length (choices_of q.game m.state)
     → ((c : ℕ) → m.choice + 1 ≤ c → c < next → serves barred members (choice_of q.game m.state c) ≡ true)
     → serves barred members (choice_of q.game m.state next) ≡ false
-    → IsGrowth q barred (followed ++ m ∷ []) members (set awaited m.state next) order
-IsGrowth-waits q barred followed members awaited order m next leads h out within minimiser is_awaited stays later
+    → IsAttractorSearch q barred (followed ++ m ∷ []) members (set awaited m.state next) order
+IsAttractorSearch-waits q barred followed members awaited order m next leads h out within minimiser is_awaited stays later
     inside passed unserved =
     let before : (c : ℕ) → c < next → serves barred members (choice_of q.game m.state c) ≡ true =
     passed-here q barred followed members awaited order m leads h out within minimiser is_awaited stays next passed in
     let at : slice_index (set awaited m.state next) m.state ≡ next =
     get_or-set_same awaited m.state next 0 (omega (arith, leads.leads.state, h.as_many)) in
-    IsGrowth-noted q barred followed members (set awaited m.state next) order m leads (IsGrowth-awaits q barred followed
+    IsAttractorSearch-noted q barred followed members (set awaited m.state next) order m leads (IsAttractorSearch-awaits q barred followed
     members awaited order m.state next h leads.leads.state minimiser inside before unserved)
     (λ out' within' stays'. (minimiser, λ e. omega (arith, e, at, later)))

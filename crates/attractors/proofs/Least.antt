@@ -10,10 +10,10 @@ use Rattle.game_model.specs.Game.{no_distribution, choices_of}
 use Rattle.game_model.specs.Query.{Query, states, is_goal, side_at}
 use Rattle.attractors.specs.Attractor.{Barred, serves, attracts, is_attracted, Grew, from_goals, with_state, IsClosed}
 use Rattle.attractors.specs.Attractor.{IsAttractor}
-use Rattle.attractors.specs.Growing.{IsLarger}
+use Rattle.attractors.specs.Search.{IsLarger}
 use Rattle.attractors.proofs.Tests.{any-place}
 use Rattle.attractors.proofs.Serving.{attracts-one, attracts-all}
-use Rattle.attractors.proofs.Grown.{Grew-goals}
+use Rattle.attractors.proofs.Searching.{Grew-goals}
 use Rattle.attractors.proofs.Following.{serves-more}
 
 -- what a set attracts, a larger one does

@@ -2,7 +2,7 @@ pub mod Tests
 pub mod Meeting
 pub mod Serving
 pub mod Ordering
-pub mod Grown
+pub mod Searching
 pub mod Following
 pub mod Closing
 pub mod Testing

@@ -7,7 +7,7 @@ use Rattle.std.proofs.lemmas.List.{length-set, get_or-set_same, get_or-set_other
 use Rattle.std.proofs.lemmas.List.{length_push}
 use Rattle.std.proofs.lemmas.List.Sums.{sum_by-set, sum_by-append, count_by-le-length}
 use Rattle.std.proofs.lemmas.List.Elements.{Contains-append_left, Contains-append_right}
-use Rattle.attractors.specs.Growing.{IsOrder}
+use Rattle.attractors.specs.Search.{IsOrder}
 
 last-contained : (order : List ℕ) (s : ℕ) → Contains (order ++ s ∷ []) s
 last-contained order s = Contains-append_right order (s ∷ []) s (0, omega arith, refl)

@@ -13,7 +13,7 @@ use Rattle.predecessors.specs.Moves.{move, LeadsTo}
 use Rattle.predecessors.specs.Lists.{ArePredecessors}
 use Rattle.predecessors.proofs.Listed.{listed-exactly}
 use Rattle.attractors.specs.Attractor.{Barred, meets, serves}
-use Rattle.attractors.specs.Growing.{moves_into, IsOrder, IsGrowth, IsLarger, IsTested, AreTested}
+use Rattle.attractors.specs.Search.{moves_into, IsOrder, IsAttractorSearch, IsLarger, IsTested, AreTested}
 use Rattle.attractors.proofs.Meeting.{meets-at, meets-more}
 use Rattle.attractors.proofs.Serving.{serves-by}
 use Rattle.attractors.proofs.Following.{serves-more}
@@ -93,11 +93,11 @@ move-meets q lists set order s c are many ordered among =
     meets-at set (choice_of q.game s c) one.0 leads.successor member
 
 -- where each state that is left was tested, the moves to the tested set may count as followed
-pub IsGrowth-tested : (q : Query) (barred : Barred) (lists : List (List Move)) (old members : List Bool)
+pub IsAttractorSearch-tested : (q : Query) (barred : Barred) (lists : List (List Move)) (old members : List Bool)
     (awaited order order' : List ℕ) → ArePredecessors q.game lists → length old ≡ states q
     → IsOrder old order → IsLarger old members → AreTested q barred old members awaited (states q)
-    → IsGrowth q barred [] members awaited order' → IsGrowth q barred (moves_into lists order) members awaited order'
-IsGrowth-tested q barred lists old members awaited order order' are many ordered larger tested h = record {
+    → IsAttractorSearch q barred [] members awaited order' → IsAttractorSearch q barred (moves_into lists order) members awaited order'
+IsAttractorSearch-tested q barred lists old members awaited order order' are many ordered larger tested h = record {
   many = h.many;
   as_many = h.as_many;
   ordered = h.ordered;

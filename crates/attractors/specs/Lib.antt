@@ -1,2 +1,2 @@
 pub mod Attractor
-pub mod Growing
+pub mod Search

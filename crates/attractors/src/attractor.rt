@@ -5,10 +5,10 @@ ghost use Rattle.game_model.specs.Growing.{IsLonger};
 ghost use Rattle.game_model.specs.Query.{states};
 ghost use Rattle.predecessors.specs.Lists.{ArePredecessors};
 ghost use Rattle.attractors.specs.Attractor.{IsAttractor};
-ghost use Rattle.attractors.specs.Growing.{moves_into, IsGrowth, IsLarger, AreTested, IsAdvanced};
+ghost use Rattle.attractors.specs.Search.{moves_into, IsAttractorSearch, IsLarger, AreTested, IsAdvanced};
 
 use crate::bars::Bars;
-use crate::growth::Growth;
+use crate::search::AttractorSearch;
 use game_model::Question;
 use game_outside::OutOfMemory;
 use predecessors::Predecessors;
@@ -31,12 +31,12 @@ pub fn attractor_of<S: Bars>(
     ensures { IfOk result (λ set. IsAttractor question.now (S.barred bars.now question.now) set.items) }
 {
     question.known();
-    let mut growth = Growth::of_goals(alloc, question)?;
+    let mut search = AttractorSearch::of_goals(alloc, question)?;
     let mut place: usize = 0;
-    while place < growth.order.len() {
-        place = advance(question, predecessors, bars, place, &mut growth)?;
+    while place < search.order.len() {
+        place = advance(question, predecessors, bars, place, &mut search)?;
     }
-    Ok(growth.members)
+    Ok(search.members)
 }
 
 /// Takes the member at this place off the order, or all members from there on, and gives the next place.
@@ -45,24 +45,24 @@ fn advance<S: Bars>(
     predecessors: &Predecessors,
     bars: &S,
     place: usize,
-    growth: &mut Growth,
+    search: &mut AttractorSearch,
 ) -> Result<usize, OutOfMemory>
     requires lists { ArePredecessors question.now.game predecessors.now }
     requires fits { S.fits bars.now question.now }
-    requires place { place < length growth.old.order.items }
-    requires grown { IsGrowth question.now (S.barred bars.now question.now)
-        (moves_into predecessors.now (take place growth.old.order.items)) growth.old.members.items
-        growth.old.awaited.items growth.old.order.items }
+    requires place { place < length search.old.order.items }
+    requires grown { IsAttractorSearch question.now (S.barred bars.now question.now)
+        (moves_into predecessors.now (take place search.old.order.items)) search.old.members.items
+        search.old.awaited.items search.old.order.items }
     ensures { IfOk result (λ next. IsAdvanced question.now (S.barred bars.now question.now) predecessors.now place next
-        growth.new.members.items growth.new.awaited.items growth.new.order.items) }
+        search.new.members.items search.new.awaited.items search.new.order.items) }
 {
     question.known();
-    let end = growth.order.len();
+    let end = search.order.len();
     if end - place > question.game().states() as usize / SHARE {
-        test_all(question, bars, growth)?;
+        test_all(question, bars, search)?;
         return Ok(end);
     }
-    go_back(question, predecessors, bars, place, growth)?;
+    go_back(question, predecessors, bars, place, search)?;
     Ok(place + 1)
 }
 
@@ -72,40 +72,40 @@ fn go_back<S: Bars>(
     predecessors: &Predecessors,
     bars: &S,
     place: usize,
-    growth: &mut Growth,
+    search: &mut AttractorSearch,
 ) -> Result<(), OutOfMemory>
     requires lists { ArePredecessors question.now.game predecessors.now }
     requires fits { S.fits bars.now question.now }
-    requires place { place < length growth.old.order.items }
-    requires grown { IsGrowth question.now (S.barred bars.now question.now)
-        (moves_into predecessors.now (take place growth.old.order.items)) growth.old.members.items
-        growth.old.awaited.items growth.old.order.items }
-    ensures longer { OnOk result (IsLonger growth.old.order.items growth.new.order.items) }
-    ensures grown { OnOk result (IsGrowth question.now (S.barred bars.now question.now)
-        (moves_into predecessors.now (take (place + 1) growth.new.order.items)) growth.new.members.items
-        growth.new.awaited.items growth.new.order.items) }
+    requires place { place < length search.old.order.items }
+    requires grown { IsAttractorSearch question.now (S.barred bars.now question.now)
+        (moves_into predecessors.now (take place search.old.order.items)) search.old.members.items
+        search.old.awaited.items search.old.order.items }
+    ensures longer { OnOk result (IsLonger search.old.order.items search.new.order.items) }
+    ensures grown { OnOk result (IsAttractorSearch question.now (S.barred bars.now question.now)
+        (moves_into predecessors.now (take (place + 1) search.new.order.items)) search.new.members.items
+        search.new.awaited.items search.new.order.items) }
 {
-    let member = growth.order[place];
+    let member = search.order[place];
     for step in predecessors.of_state(member) {
-        growth.follow(question, bars, *step)?;
+        search.follow(question, bars, *step)?;
     }
     Ok(())
 }
 
 /// Tests each state that is no member.
-fn test_all<S: Bars>(question: &Question, bars: &S, growth: &mut Growth) -> Result<(), OutOfMemory>
+fn test_all<S: Bars>(question: &Question, bars: &S, search: &mut AttractorSearch) -> Result<(), OutOfMemory>
     requires fits { S.fits bars.now question.now }
-    requires grown { IsGrowth question.now (S.barred bars.now question.now)
-        [] growth.old.members.items growth.old.awaited.items growth.old.order.items }
-    ensures longer { OnOk result (IsLonger growth.old.order.items growth.new.order.items) }
-    ensures larger { OnOk result (IsLarger growth.old.members.items growth.new.members.items) }
-    ensures grows { OnOk result (IsGrowth question.now (S.barred bars.now question.now)
-        [] growth.new.members.items growth.new.awaited.items growth.new.order.items) }
-    ensures tested { OnOk result (AreTested question.now (S.barred bars.now question.now) growth.old.members.items
-        growth.new.members.items growth.new.awaited.items (states question.now)) }
+    requires grown { IsAttractorSearch question.now (S.barred bars.now question.now)
+        [] search.old.members.items search.old.awaited.items search.old.order.items }
+    ensures longer { OnOk result (IsLonger search.old.order.items search.new.order.items) }
+    ensures larger { OnOk result (IsLarger search.old.members.items search.new.members.items) }
+    ensures grows { OnOk result (IsAttractorSearch question.now (S.barred bars.now question.now)
+        [] search.new.members.items search.new.awaited.items search.new.order.items) }
+    ensures tested { OnOk result (AreTested question.now (S.barred bars.now question.now) search.old.members.items
+        search.new.members.items search.new.awaited.items (states question.now)) }
 {
     for state in 0..question.game().states() {
-        growth.test(question, bars, state)?;
+        search.test(question, bars, state)?;
     }
     Ok(())
 }

@@ -3,7 +3,7 @@
 ghost use Rattle.std.specs.Prelude.{◌≡◌, ℕ, ◌<◌, Bool, List, true, false, slice_index_or};
 ghost use Rattle.game_model.specs.Query.{Query, states, is_goal};
 ghost use Rattle.attractors.specs.Attractor.{Barred, IsClosed, IsAttractor};
-ghost use Rattle.attractors.specs.Growing.{IsLarger};
+ghost use Rattle.attractors.specs.Search.{IsLarger};
 
 /// An attractor is the least set that has the goals and attracts no other state that is not barred.
 pub fn attractors_are_least()

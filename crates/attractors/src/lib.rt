@@ -21,7 +21,7 @@
 
 mod attractor;
 mod bars;
-mod growth;
+mod search;
 pub mod laws;
 mod membership;
 

@@ -9,7 +9,7 @@ use Rattle.game_model.specs.Query.{Query, IsQuery, states, side_at}
 use Rattle.predecessors.specs.declared.lists.Move.{Move}
 use Rattle.predecessors.specs.Moves.{move}
 use Rattle.rank_certificate.specs.Carrying.{Carries, IsCarriedBy, IsCarried, IsFirstCarrying, IsChosen}
-use Rattle.rank_certificate.specs.inside.Growth.{HasRankWithin, IsApartBy, Looks, Follows}
+use Rattle.rank_certificate.specs.inside.RankLayers.{HasRankWithin, IsApartBy, Looks, Follows}
 use Rattle.rank_certificate.proofs.Looked.{Looks-many, Looks-kept, Looks-apart, Looks-grown}
 use Rattle.rank_certificate.proofs.Carried.{Carries-more, next-whole}
 

@@ -8,7 +8,7 @@ use Rattle.std.proofs.lemmas.List.Sums.{sum_by-append}
 use Rattle.std.proofs.lemmas.List.Elements.{Contains-append_left, Contains-push}
 use Rattle.game_model.specs.Query.{Query}
 use Rattle.rank_certificate.specs.Ranking.{NeedsRank}
-use Rattle.rank_certificate.specs.inside.Growth.{HasRankWithin, IsOpened}
+use Rattle.rank_certificate.specs.inside.RankLayers.{HasRankWithin, IsOpened}
 use Rattle.rank_certificate.proofs.States.{Some-one}
 
 low-rank-of : (o : Option ℕ) (level : ℕ) → IsSomeAnd o (λ r. r ≤ level) → (r : ℕ) × (o ≡ Some r) × (r ≤ level)

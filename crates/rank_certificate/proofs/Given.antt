@@ -11,7 +11,7 @@ use Rattle.game_model.specs.Ranks.{HasRankedChoice, Ranked}
 use Rattle.rank_certificate.specs.Ranking.{IsEnough, NeedsRank}
 use Rattle.rank_certificate.specs.Layers.{IsAsked, LeadsInto, IsWithin, AreLayered}
 use Rattle.rank_certificate.specs.Carrying.{MayTake, Carries, IsCarriedBy, IsCarried, IsCarriedAt}
-use Rattle.rank_certificate.specs.inside.Growth.{IsGrown}
+use Rattle.rank_certificate.specs.inside.RankLayers.{IsGrown}
 use Rattle.rank_certificate.proofs.States.{Some-one}
 use Rattle.rank_certificate.proofs.Causes.{asked-given, always-asked, given-asked}
 use Rattle.rank_certificate.proofs.Found.{Some-none}
@@ -121,18 +121,18 @@ module _ (q : Query) (values : List ℕ) (choices : List (Option ℕ)) (vouching
     pub numbers-some : {V : Type 0} (P : V → Type 0) (numbers : Option V)
         → MatchOption numbers ((s : ℕ) × (s < length found) × (slice_index_or found s None ≡ None)) P → IsSome numbers
     numbers-some P None (s, inside, left) =
-        let at = all-ranked s (let h = g.growth in omega (arith, inside, h.many)) in
+        let at = all-ranked s (let h = g.layers in omega (arith, inside, h.many)) in
         absurd (Some-none (slice_index_or found s None) at.0 at.1 left)
     numbers-some P (Some v) h = refl
 
     module _ (ranks : List ℕ) (many : length ranks ≡ length found)
         (given : (s : ℕ) → s < length found → slice_index_or found s None ≡ Some (slice_index ranks s)) where
       each : (s : ℕ) → s < states q → IsCarriedAt q value (Some choices) s (slice_index ranks s)
-      each s inside = let h = g.growth in h.layer s (slice_index ranks s) (given s (omega (arith, inside, h.many)))
+      each s inside = let h = g.layers in h.layer s (slice_index ranks s) (given s (omega (arith, inside, h.many)))
 
       pub given-layered : AreLayered q values choices ranks
       given-layered = record {
-        as_many = many ∙ (let h = g.growth in h.many);
+        as_many = many ∙ (let h = g.layers in h.many);
         each = λ s inside.
             let at = each s inside in record {
               within = carried-within (slice_index ranks s) s inside at.within;

@@ -10,7 +10,7 @@ use Rattle.game_model.specs.Query.{Query, IsQuery, states, side_at}
 use Rattle.predecessors.specs.Moves.{LeadsTo}
 use Rattle.rank_certificate.specs.Ranking.{NeedsRank}
 use Rattle.rank_certificate.specs.Carrying.{Carries, IsCarriedBy, IsCarried, IsCarriedAt, IsChosenAt}
-use Rattle.rank_certificate.specs.inside.Growth.{HasRankWithin, IsOpened, IsGrowth, IsApart, AreFollowed}
+use Rattle.rank_certificate.specs.inside.RankLayers.{HasRankWithin, IsOpened, AreRankLayers, IsApart, AreFollowed}
 use Rattle.rank_certificate.proofs.Found.{low-rank, rank-low, Some-none, low-inside, same-entry}
 use Rattle.predecessors.proofs.Successors.{edge-leads}
 use Rattle.rank_certificate.proofs.Carried.{Carries-more, IsCarried-more, carried-free, free-carried, suc-whole}
@@ -18,7 +18,7 @@ use Rattle.rank_certificate.proofs.Carried.{next-parts}
 
 -- where each state is apart or has a rank, the next layer begins
 module _ (q : Query) (value : ℕ → ℕ) (only : Option (List (Option ℕ))) (level begin : ℕ) (old : List ℕ)
-    (ranks choices : List (Option ℕ)) (order : List ℕ) (h : IsGrowth q value only level begin old ranks choices order)
+    (ranks choices : List (Option ℕ)) (order : List ℕ) (h : AreRankLayers q value only level begin old ranks choices order)
     (apart : (s : ℕ) → s < states q → IsApart q value only level ranks s) where
   next-full : (s : ℕ) → s < states q → IsCarried q value only (level + 1) s → (o : Option ℕ)
       → slice_index_or ranks s None ≡ o → HasRankWithin ranks (level + 1) s
@@ -26,8 +26,8 @@ module _ (q : Query) (value : ℕ → ℕ) (only : Option (List (Option ℕ))) (
   next-full s inside within (Some r) given =
       rank-low ranks (level + 1) s r given ((h.layer s r given).least (level + 1) within)
 
-  pub Growth-step : IsGrowth q value only (level + 1) (length old) order ranks choices order
-  Growth-step = record {
+  pub RankLayers-step : AreRankLayers q value only (level + 1) (length old) order ranks choices order
+  RankLayers-step = record {
     many = h.many;
     as_many = h.as_many;
     few = h.few;
@@ -45,7 +45,7 @@ module _ (q : Query) (value : ℕ → ℕ) (only : Option (List (Option ℕ))) (
 -- where all moves were followed to the states of a layer, each state is apart or has a rank
 module _ (q : Query) (value : ℕ → ℕ) (only : Option (List (Option ℕ))) (l begin : ℕ)
     (old : List ℕ) (ranks choices : List (Option ℕ)) (order : List ℕ) (posed : IsQuery q)
-    (h : IsGrowth q value only (suc l) begin old ranks choices order)
+    (h : AreRankLayers q value only (suc l) begin old ranks choices order)
     (followed : AreFollowed q value only (suc l) old begin (length old) ranks) (s : ℕ) (inside : s < states q)
     (left : slice_index_or ranks s None ≡ None) (within : IsCarried q value only (suc l + 1) s) where
   earlier : IsCarriedBy (side_at q s) q value only (IsCarried q value only (suc l)) s
@@ -88,7 +88,7 @@ module _ (q : Query) (value : ℕ → ℕ) (only : Option (List (Option ℕ))) (
 
 pub followed-apart : (q : Query) (value : ℕ → ℕ) (only : Option (List (Option ℕ)))
     (level begin : ℕ) (old : List ℕ) (ranks choices : List (Option ℕ)) (order : List ℕ)
-    → IsQuery q → 1 ≤ level → IsGrowth q value only level begin old ranks choices order
+    → IsQuery q → 1 ≤ level → AreRankLayers q value only level begin old ranks choices order
     → AreFollowed q value only level old begin (length old) ranks → (s : ℕ) → s < states q
     → IsApart q value only level ranks s
 followed-apart q value only zero begin old ranks choices order posed some h followed s inside left within =
@@ -113,9 +113,9 @@ module _ (q : Query) (value : ℕ → ℕ) (only : Option (List (Option ℕ))) (
   opened-chosen none s r is =
       subst (λ (n : ℕ). IsChosenAt q value only s n (slice_index_or choices s None)) (sym is) (none s)
 
-  pub Opened-growth : length choices ≡ states q → ((s : ℕ) → slice_index_or choices s None ≡ None)
-      → IsGrowth q value only 0 0 order ranks choices order
-  Opened-growth as_many none = record {
+  pub Opened-layers : length choices ≡ states q → ((s : ℕ) → slice_index_or choices s None ≡ None)
+      → AreRankLayers q value only 0 0 order ranks choices order
+  Opened-layers as_many none = record {
     many = h.many;
     as_many = as_many;
     few = h.few;

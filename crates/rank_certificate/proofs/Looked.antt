@@ -10,7 +10,7 @@ use Rattle.game_model.specs.Game.{choices_of, choice_of, no_edge}
 use Rattle.game_model.specs.Query.{Query, IsQuery, states, side_at}
 use Rattle.game_model.proofs.Longer.{longer-length}
 use Rattle.rank_certificate.specs.Carrying.{IsCarriedBy, IsCarried, IsCarriedAt, IsChosen, IsChosenAt}
-use Rattle.rank_certificate.specs.inside.Growth.{HasRankWithin, IsGrowth, IsApart, Looks}
+use Rattle.rank_certificate.specs.inside.RankLayers.{HasRankWithin, AreRankLayers, IsApart, Looks}
 use Rattle.rank_certificate.proofs.States.{Some-one}
 use Rattle.rank_certificate.proofs.Found.{low-rank, rank-low, Some-none, none-counts}
 use Rattle.rank_certificate.proofs.Carried.{IsCarriedBy-more, IsChosen-same, IsCarried-more, next-parts, next-whole}
@@ -42,7 +42,7 @@ Looks-kept q value only level s ranks choices order ranks' choices' order' (inr 
 
 module _ (q : Query) (value : ℕ → ℕ) (only : Option (List (Option ℕ))) (level begin : ℕ)
     (old : List ℕ) (ranks choices : List (Option ℕ)) (order : List ℕ) (posed : IsQuery q)
-    (h : IsGrowth q value only level begin old ranks choices order) where
+    (h : AreRankLayers q value only level begin old ranks choices order) where
   -- low states are of the layer
   low-carried : (t : ℕ) → HasRankWithin ranks level t → IsCarried q value only level t
   low-carried t low =
@@ -142,7 +142,7 @@ module _ (q : Query) (value : ℕ → ℕ) (only : Option (List (Option ℕ))) (
           let found = low-rank ranks level t low in
           rank-low (set ranks s (Some (level + 1))) level t found.0 (old-rank t found.0 found.1) found.2
 
-      joined : IsGrowth q value only level begin old (set ranks s (Some (level + 1)))
+      joined : AreRankLayers q value only level begin old (set ranks s (Some (level + 1)))
           (set choices s choice) (order ++ s ∷ [])
       joined = record {
         many = length-set ranks s (Some (level + 1)) ∙ h.many;
@@ -204,14 +204,14 @@ module _ (q : Query) (value : ℕ → ℕ) (only : Option (List (Option ℕ))) (
 
     pub Looks-grown : (ranks' choices' : List (Option ℕ)) (order' : List ℕ)
         → Looks q value only level s ranks choices order ranks' choices' order'
-        → IsGrowth q value only level begin old ranks' choices' order'
+        → AreRankLayers q value only level begin old ranks' choices' order'
     Looks-grown ranks' choices' order' (inl w) =
-        subst (λ list. IsGrowth q value only level begin old list choices' order') (sym w.new_ranks)
-        (subst (λ list. IsGrowth q value only level begin old ranks list order') (sym w.new_choices)
-        (subst (λ list. IsGrowth q value only level begin old ranks choices list) (sym w.new_order) h))
+        subst (λ list. AreRankLayers q value only level begin old list choices' order') (sym w.new_ranks)
+        (subst (λ list. AreRankLayers q value only level begin old ranks list order') (sym w.new_choices)
+        (subst (λ list. AreRankLayers q value only level begin old ranks choices list) (sym w.new_order) h))
     Looks-grown ranks' choices' order' (inr j) =
-        subst (λ list. IsGrowth q value only level begin old list choices' order') (sym j.new_ranks)
-        (subst (λ list. IsGrowth q value only level begin old (set ranks s (Some (level + 1))) list order')
+        subst (λ list. AreRankLayers q value only level begin old list choices' order') (sym j.new_ranks)
+        (subst (λ list. AreRankLayers q value only level begin old (set ranks s (Some (level + 1))) list order')
         (sym j.new_choices)
-        (subst (λ list. IsGrowth q value only level begin old (set ranks s (Some (level + 1)))
+        (subst (λ list. AreRankLayers q value only level begin old (set ranks s (Some (level + 1)))
         (set choices s j.choice) list) (sym j.new_order) (joined j.none j.carried j.choice j.chosen)))

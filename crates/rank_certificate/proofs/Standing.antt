@@ -18,7 +18,7 @@ use Rattle.rank_certificate.specs.Ranking.{NeedsRank, IsEnough}
 use Rattle.rank_certificate.specs.Faults.{HasToRank}
 use Rattle.rank_certificate.specs.Carrying.{CanBeRanked, MayTake, Carries, IsCarriedBy, IsCarried, IsCarriedAt}
 use Rattle.rank_certificate.specs.Carrying.{IsFirstCarrying, IsChosen, IsChosenAt, IsLayeredPlan, Stands}
-use Rattle.rank_certificate.specs.inside.Growth.{IsGrown, AreFollowed}
+use Rattle.rank_certificate.specs.inside.RankLayers.{IsGrown, AreFollowed}
 use Rattle.rank_certificate.proofs.Causes.{given-asked, always-asked}
 use Rattle.rank_certificate.proofs.Found.{Some-none}
 use Rattle.rank_certificate.proofs.Carried.{IsCarried-more, carried-free, suc-parts, next-whole}
@@ -35,7 +35,7 @@ module _ (q : Query) (values : List ℕ) (only : Option (List (Option ℕ))) (ra
   -- a state with a rank is of the last layer
   ranked-carried : (t r : ℕ) → slice_index_or ranks t None ≡ Some r → IsCarried q value only g.level t
   ranked-carried t r given =
-      let h = g.growth in
+      let h = g.layers in
       elim (cases_lt g.level r) [
         | inl more ↦
             let is : r ≡ g.level + 1 = omega (arith, more, h.most t r given) in
@@ -93,7 +93,7 @@ module _ (q : Query) (values : List ℕ) (only : Option (List (Option ℕ))) (ra
     none-left k s inside below (Some r) is = (r, is)
     none-left zero s inside below None left = absurd (omega arith)
     none-left (suc k) s inside below None left =
-        let h = g.growth in
+        let h = g.layers in
         let earlier : (t : ℕ) → t < states q → slice_index vouching t < k
         → (r : ℕ) × (slice_index_or ranks t None ≡ Some r) =
         λ t there less. none-left k t there less (slice_index_or ranks t None) refl in
@@ -121,7 +121,7 @@ module _ (q : Query) (values : List ℕ) (ranks choices : List (Option ℕ)) (po
       → ((s : ℕ) → s < states q → slice_index_or ranks s None ≡ Some (slice_index numbers s))
       → IsLayeredPlan q values choices numbers
   grown-plan numbers many each =
-      let h = g.growth in record {
+      let h = g.layers in record {
         many = many;
         as_many = h.as_many;
         each = λ s inside. h.layer s (slice_index numbers s) (each s inside);

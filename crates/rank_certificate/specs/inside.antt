@@ -1,3 +1,3 @@
 -- The crate's own loops and private functions use these definitions: no clause of a public function unfolds to them.
-pub mod Growth
+pub mod RankLayers
 pub mod OfAsked

@@ -1,7 +1,7 @@
 //! This module finds the choices that carry a state into the states whose ranks were found.
 
 ghost use Rattle.std.specs.Prelude.{◌<◌, ◌↔◌, length, IsTrue};
-ghost use Rattle.rank_certificate.specs.inside.Growth.{HasRankWithin};
+ghost use Rattle.rank_certificate.specs.inside.RankLayers.{HasRankWithin};
 
 use crate::asked::Asked;
 use fixed_bellman::gives;

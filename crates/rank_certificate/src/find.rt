@@ -50,7 +50,7 @@ pub fn find_ranks_over(
     ensures layered { IfOk result (λ ranks. AreLayered question.now values.now choices.now ranks.items) }
 {
     question.known();
-    let growth = whole_growth(alloc, question, values, Some(choices), predecessors)?;
-    let ranks = all_ranks(alloc, &growth.ranks)?;
+    let layers = whole_growth(alloc, question, values, Some(choices), predecessors)?;
+    let ranks = all_ranks(alloc, &layers.ranks)?;
     Ok(ranks.unwrap())
 }

@@ -18,7 +18,7 @@ mod carrying;
 mod check;
 mod choice;
 mod find;
-mod growth;
+mod layers;
 pub mod laws;
 mod table;
 

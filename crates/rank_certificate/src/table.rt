@@ -6,12 +6,12 @@ ghost use Rattle.game_model.specs.Limits.{unit};
 ghost use Rattle.game_model.specs.Ranks.{Ranked};
 ghost use Rattle.predecessors.specs.Lists.{ArePredecessors};
 ghost use Rattle.rank_certificate.specs.Carrying.{AreOfStates, CanBeRanked, IsLayeredPlan, Stands};
-ghost use Rattle.rank_certificate.specs.inside.Growth.{IsGrown};
+ghost use Rattle.rank_certificate.specs.inside.RankLayers.{IsGrown};
 ghost use Rattle.rank_certificate.specs.inside.OfAsked.{IsGrownIn};
 
 use crate::asked::Asked;
 use crate::check::first_over;
-use crate::growth::Growth;
+use crate::layers::RankLayers;
 use fixed_bellman::is_given;
 use game_model::{Question, UNIT};
 use game_outside::OutOfMemory;
@@ -94,12 +94,12 @@ pub fn rank_standing(
         Ranked question.now values.now plan.choices.items plan.ranks.items)) }
 {
     question.known();
-    let growth = whole_growth(alloc, question, values, None, predecessors)?;
-    let Some(ranks) = all_ranks(alloc, &growth.ranks)? else {
+    let layers = whole_growth(alloc, question, values, None, predecessors)?;
+    let Some(ranks) = all_ranks(alloc, &layers.ranks)? else {
         return Ok(None);
     };
     Ok(Some(RankPlan {
-        choices: growth.choices,
+        choices: layers.choices,
         ranks,
     }))
 }
@@ -111,7 +111,7 @@ pub fn whole_growth(
     values: &[u64],
     only: Option<&[Option<u32>]>,
     predecessors: &Predecessors,
-) -> Result<Growth, OutOfMemory>
+) -> Result<RankLayers, OutOfMemory>
     requires values { length values.now ≡ states question.now }
     requires units { All (λ v. v ≤ unit) values.now }
     requires only { AreOfStates question.now (option_copied only) }
@@ -130,20 +130,20 @@ pub fn whole_growth(
 }
 
 /// Finds the ranks of all layers, and the choices for them.
-fn all_layers(alloc: Global, asked: &Asked<'_>) -> Result<Growth, OutOfMemory>
+fn all_layers(alloc: Global, asked: &Asked<'_>) -> Result<RankLayers, OutOfMemory>
     ensures { IfOk result (λ g. IsGrownIn asked.now g) }
 {
-    let mut growth = Growth::of_unneeded(alloc, asked)?;
-    let mut begin = growth.order.len();
-    growth.look_at_all(asked, 0)?;
+    let mut layers = RankLayers::of_unneeded(alloc, asked)?;
+    let mut begin = layers.order.len();
+    layers.look_at_all(asked, 0)?;
     let mut level: u32 = 1;
-    while begin < growth.order.len() {
-        let end = growth.order.len();
-        growth.advance(asked, level, begin, end)?;
+    while begin < layers.order.len() {
+        let end = layers.order.len();
+        layers.advance(asked, level, begin, end)?;
         begin = end;
         level += 1;
     }
-    Ok(growth)
+    Ok(layers)
 }
 
 /// Returns the ranks as numbers, or none if a state has no rank.

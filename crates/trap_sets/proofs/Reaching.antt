@@ -6,7 +6,7 @@ use Rattle.std.proofs.lemmas.Bool.{cases_eq, eq-eqb, eqb-true}
 use Rattle.std.proofs.lemmas.List.{append-nil, append_assoc, length-set, get_or-set_other}
 use Rattle.std.proofs.lemmas.List.{get_or_default}
 use Rattle.game_model.proofs.Longer.{longer-at}
-use Rattle.attractors.specs.Growing.{IsOrder}
+use Rattle.attractors.specs.Search.{IsOrder}
 use Rattle.attractors.proofs.Least.{member-inside}
 use Rattle.attractors.proofs.Ordering.{IsOrder-joins, stays-member}
 use Rattle.trap_sets.specs.declared.internal.Internal.{Internal}

@@ -1,7 +1,7 @@
 //! This module searches from the roots of all parts at once.
 
 ghost use Rattle.std.specs.Prelude.{◌≡◌, ℕ, ◌+◌, ◌<◌, true, false, length, slice_index, slice_index_or, IfOk, OnOk};
-ghost use Rattle.attractors.specs.Growing.{IsOrder};
+ghost use Rattle.attractors.specs.Search.{IsOrder};
 ghost use Rattle.game_model.specs.Game.{choices_of};
 ghost use Rattle.trap_sets.specs.inside.OfInternal.{states_of, LeadsOf, IsInternalOf, IsStepOf};
 ghost use Rattle.trap_sets.specs.inside.Parts.{IsRooted};

@@ -22,7 +22,7 @@ use Rattle.game_laws.proofs.Positive.{optimum-positive, marked-at-least, scaled-
 use Rattle.attractors.specs.Attractor.{meets, attracts, is_attracted, dead_barred, Grew, from_goals, with_state}
 use Rattle.attractors.specs.Attractor.{IsAttractor}
 use Rattle.attractors.proofs.Tests.{any-place, any-none, all-each, all-place}
-use Rattle.attractors.proofs.Grown.{Grew-goals}
+use Rattle.attractors.proofs.Searching.{Grew-goals}
 
 -- after some number of steps each member has a positive value
 record IsReached (q : Query) (set : List Bool) : Type 0 where

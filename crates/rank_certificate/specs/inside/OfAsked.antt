@@ -4,9 +4,9 @@ use Rattle.game_model.specs.Query.{states}
 use Rattle.predecessors.specs.declared.lists.Move.{Move}
 use Rattle.rank_certificate.specs.Ranking.{NeedsRank}
 use Rattle.rank_certificate.specs.Carrying.{Carries, IsFirstCarrying}
-use Rattle.rank_certificate.specs.inside.Growth.{IsGrowth, IsApart, Looks, Follows, AreFollowed, IsGrown}
+use Rattle.rank_certificate.specs.inside.RankLayers.{AreRankLayers, IsApart, Looks, Follows, AreFollowed, IsGrown}
 use Rattle.rank_certificate.specs.declared.asked.Asked.{Asked}
-use Rattle.rank_certificate.specs.declared.growth.Growth.{Growth}
+use Rattle.rank_certificate.specs.declared.layers.RankLayers.{RankLayers}
 
 -- The question has this many states.
 abbrev pub states_in : Asked → ℕ
@@ -33,29 +33,29 @@ abbrev pub IsFirstCarryingIn : Asked → (ℕ → Type 0) → ℕ → ℕ → Ty
 IsFirstCarryingIn a among s c = IsFirstCarrying a.question.now (value_in a) (only_in a) among s c
 
 -- The states up to a layer are found.
-abbrev pub IsGrowthIn : Asked → ℕ → ℕ → List ℕ → Growth → Type 0
-IsGrowthIn a level begin old g =
-    IsGrowth a.question.now (value_in a) (only_in a) level begin old g.ranks.items g.choices.items g.order.items
+abbrev pub AreRankLayersIn : Asked → ℕ → ℕ → List ℕ → RankLayers → Type 0
+AreRankLayersIn a level begin old g =
+    AreRankLayers a.question.now (value_in a) (only_in a) level begin old g.ranks.items g.choices.items g.order.items
 
 -- If the state has no rank, it is in no layer up to the next one.
-abbrev pub IsApartIn : Asked → ℕ → Growth → ℕ → Type 0
+abbrev pub IsApartIn : Asked → ℕ → RankLayers → ℕ → Type 0
 IsApartIn a level g s = IsApart a.question.now (value_in a) (only_in a) level g.ranks.items s
 
 -- The state was looked at.
-abbrev pub LooksIn : Asked → ℕ → ℕ → Growth → Growth → Type 0
+abbrev pub LooksIn : Asked → ℕ → ℕ → RankLayers → RankLayers → Type 0
 LooksIn a level s g g' = Looks a.question.now (value_in a) (only_in a) level s g.ranks.items g.choices.items
     g.order.items g'.ranks.items g'.choices.items g'.order.items
 
 -- The moves of a part were followed to the state at hand.
-abbrev pub FollowsIn : Asked → ℕ → ℕ → List Move → Growth → Growth → Type 0
+abbrev pub FollowsIn : Asked → ℕ → ℕ → List Move → RankLayers → RankLayers → Type 0
 FollowsIn a level hand part g g' = Follows a.question.now (value_in a) (only_in a) level hand part g.ranks.items
     g.choices.items g.order.items g'.ranks.items g'.choices.items g'.order.items
 
 -- All moves were followed to the states of an order from one place up to another.
-abbrev pub AreFollowedIn : Asked → ℕ → List ℕ → ℕ → ℕ → Growth → Type 0
+abbrev pub AreFollowedIn : Asked → ℕ → List ℕ → ℕ → ℕ → RankLayers → Type 0
 AreFollowedIn a level old from upto g =
     AreFollowed a.question.now (value_in a) (only_in a) level old from upto g.ranks.items
 
 -- All layers are found: no layer has a state without a rank.
-abbrev pub IsGrownIn : Asked → Growth → Type 0
+abbrev pub IsGrownIn : Asked → RankLayers → Type 0
 IsGrownIn a g = IsGrown a.question.now (value_in a) (only_in a) g.ranks.items g.choices.items

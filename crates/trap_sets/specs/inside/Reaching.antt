@@ -1,7 +1,7 @@
 -- This module says what searches from the roots of all parts reach, along internal choices or against them.
 use Rattle.std.specs.Prelude.{◌≡◌, ◌⊎◌, ℕ, ◌+◌, ◌<◌, Bool, true, false, List, length, slice_index, slice_index_or}
 use Rattle.game_model.specs.Growing.{IsLonger}
-use Rattle.attractors.specs.Growing.{IsOrder, IsLarger}
+use Rattle.attractors.specs.Search.{IsOrder, IsLarger}
 use Rattle.trap_sets.specs.declared.internal.Internal.{Internal}
 use Rattle.trap_sets.specs.declared.reach.Way.{Way}
 use Rattle.trap_sets.specs.declared.reach.Way.TheVariants.{On, Back}

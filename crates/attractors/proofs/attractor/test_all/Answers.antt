@@ -9,8 +9,8 @@ loop-state-preserved g c =
       longer = longer-more _ _ _ c.loop-state.invariant.longer c.in_ok-test.ensures.longer;
       larger = λ s member. c.in_ok-test.ensures.larger s (c.loop-state.invariant.larger s member);
       grown = c.in_ok-test.ensures.grows;
-      tested = AreTested-more q (g.S.Bars.barred c.args.bars.now q) c.args.growth.now.members.items
-          c.loop-state.growth.members.items c.test.new.self.members.items c.loop-state.growth.awaited.items
+      tested = AreTested-more q (g.S.Bars.barred c.args.bars.now q) c.args.search.now.members.items
+          c.loop-state.search.members.items c.test.new.self.members.items c.loop-state.search.awaited.items
           c.test.new.self.awaited.items c.loop-state.state
           c.loop-state.invariant.larger c.in_ok-test.ensures.larger c.loop-state.invariant.tested
           c.in_ok-test.ensures.others c.in_ok-test.ensures.tested;

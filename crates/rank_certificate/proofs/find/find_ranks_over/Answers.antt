@@ -7,7 +7,7 @@ pub unwrap-requires : goal.unwrap-requires
 unwrap-requires c =
     let some = c.requires.rankable in
     numbers-some c.args.question.now c.args.values.now c.args.choices.now some.0 c.known.ensures some.1 _ _
-    c.in_ok-growth.ensures _ c.in_ok-ranks.ranks (rw c.deref.ensures.value at c.in_ok-ranks.ensures)
+    c.in_ok-layers.ensures _ c.in_ok-ranks.ranks (rw c.deref.ensures.value at c.in_ok-ranks.ensures)
 
 pub returns : goal.returns
 returns c =
@@ -15,14 +15,14 @@ returns c =
     let values = c.args.values.now in
     let choices = c.args.choices.now in
     let some = c.requires.rankable in
-    let found : List (Option ℕ) = c.in_ok-growth.growth.ranks.items in
+    let found : List (Option ℕ) = c.in_ok-layers.layers.ranks.items in
     let ranks : List ℕ = c.unwrap.result.items in
     let all : (length ranks ≡ length found)
     × ((s : ℕ) → s < length found → slice_index_or found s None ≡ Some (slice_index ranks s)) =
     rw c.deref.ensures.value at (rw c.unwrap.ensures at c.in_ok-ranks.ensures) in
     record {
-      ranked = given-Ranked q values choices some.0 c.known.ensures some.1 found _ c.in_ok-growth.ensures ranks
+      ranked = given-Ranked q values choices some.0 c.known.ensures some.1 found _ c.in_ok-layers.ensures ranks
           all.0 all.1;
-      layered = given-layered q values choices some.0 c.known.ensures some.1 found _ c.in_ok-growth.ensures ranks
+      layered = given-layered q values choices some.0 c.known.ensures some.1 found _ c.in_ok-layers.ensures ranks
           all.0 all.1;
     }

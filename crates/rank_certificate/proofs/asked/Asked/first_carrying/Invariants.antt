@@ -1,5 +1,5 @@
 use Rattle.std.proofs.Common.{ℕ, ◌<◌}
-use Rattle.rank_certificate.specs.inside.Growth.{HasRankWithin}
+use Rattle.rank_certificate.specs.inside.RankLayers.{HasRankWithin}
 use Rattle.rank_certificate.specs.inside.OfAsked.{CarriesIn}
 use Rattle.rank_certificate.proofs.asked.Asked.first_carrying.Given as goal
 

@@ -2,7 +2,7 @@ use Rattle.std.proofs.Common.{ℕ, arith, sym, inl, inr}
 use borrow.Author.Count.{below_more}
 use Rattle.std.specs.Prelude.{slice_index_or}
 use Rattle.std.proofs.lemmas.Bool.{true≢false}
-use Rattle.rank_certificate.specs.inside.Growth.{HasRankWithin}
+use Rattle.rank_certificate.specs.inside.RankLayers.{HasRankWithin}
 use Rattle.rank_certificate.specs.inside.OfAsked.{value_in}
 use Rattle.rank_certificate.proofs.Meeting.{IsMet, successors-inside, met-none}
 use Rattle.rank_certificate.proofs.asked.Asked.leads_low.Goals.{then-there-value, else-there-value}

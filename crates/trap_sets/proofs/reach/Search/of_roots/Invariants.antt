@@ -1,6 +1,6 @@
 use Rattle.std.proofs.Common.{◌≡◌, ℕ, ◌+◌, ◌<◌, length, false}
 use Rattle.std.specs.Prelude.{slice_index, slice_index_or, ◌==◌}
-use Rattle.attractors.specs.Growing.{IsOrder}
+use Rattle.attractors.specs.Search.{IsOrder}
 use Rattle.trap_sets.proofs.reach.Search.of_roots.Given as goal
 
 abbrev pub invariant-loop-state : goal.invariant-loop-state

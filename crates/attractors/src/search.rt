@@ -1,0 +1,151 @@
+//! This module grows a set of states backward from the goals.
+
+ghost use Rattle.std.specs.Prelude.{◌≡◌, ◌≢◌, ℕ, ◌+◌, ◌<◌, List, [], ◌∷◌, ◌++◌, false, length, slice_index, slice_index_or, IfOk, OnOk};
+ghost use Rattle.game_model.specs.Growing.{IsLonger};
+ghost use Rattle.game_model.specs.Query.{states};
+ghost use Rattle.attractors.specs.Attractor.{Barred};
+ghost use Rattle.attractors.specs.Search.{LeadsIn, IsAttractorSearch, IsLarger, IsTested};
+
+use crate::bars::Bars;
+use crate::membership::{first_unserved, some_serves};
+use game_model::{Question, Side};
+use game_outside::OutOfMemory;
+use predecessors::Move;
+use std::alloc::Global;
+
+/// `members` marks the members. `awaited` has, for each state of the minimiser that is neither a member nor barred, the
+/// first choice that is not known to serve. `order` lists the members in the order in which they joined.
+#[derive(Drop)]
+pub struct AttractorSearch {
+    pub members: Vec<bool>,
+    pub awaited: Vec<u32>,
+    pub order: Vec<u32>,
+}
+
+impl AttractorSearch {
+    /// Begins with the goals as the only members.
+    pub fn of_goals(alloc: Global, question: &Question) -> Result<AttractorSearch, OutOfMemory>
+        ensures { IfOk result (λ g. (barred : Barred) → IsAttractorSearch question.now barred
+            [] g.members.items g.awaited.items g.order.items) }
+    {
+        question.known();
+        let states = question.game().states();
+        let awaited = vec![in alloc; 0u32; states as usize]?;
+        let mut members = Vec::with_capacity(alloc, states as usize)?;
+        let mut order = Vec::with_capacity(alloc, states as usize)?;
+        for state in 0..states {
+            let goal = question.is_goal(state);
+            members.push(goal)?;
+            if goal {
+                order.push(state)?;
+            }
+        }
+        Ok(AttractorSearch {
+            members,
+            awaited,
+            order,
+        })
+    }
+
+    /// Follows a move that leads to a member, if neither its state nor its choice is barred. A state of the maximiser
+    /// joins by it. A state of the minimiser joins if it waited for this choice and each later one serves.
+    pub fn follow<S: Bars>(
+        &mut self,
+        question: &Question,
+        bars: &S,
+        step: Move,
+    ) -> Result<(), OutOfMemory>
+        requires fits { S.fits bars.now question.now }
+        requires members { length self.old.members.items ≡ states question.now }
+        requires awaited { length self.old.awaited.items ≡ states question.now }
+        requires leads { LeadsIn question.now.game self.old.members.items step }
+        ensures longer { OnOk result (IsLonger self.old.order.items self.new.order.items) }
+        ensures grows { OnOk result ((followed : List Move) → IsAttractorSearch question.now
+            (S.barred bars.now question.now) followed self.old.members.items self.old.awaited.items self.old.order.items
+            → IsAttractorSearch question.now (S.barred bars.now question.now)
+            (followed ++ step ∷ []) self.new.members.items self.new.awaited.items self.new.order.items) }
+    {
+        question.known();
+        let state = step.state as usize;
+        if self.members[state]
+            || bars.bars_state(question, step.state)
+            || bars.bars_choice(question, step.state, step.choice)
+        {
+            return Ok(());
+        }
+        match question.side(step.state) {
+            Side::Max => {}
+            Side::Min => {
+                if self.awaited[state] != step.choice {
+                    return Ok(());
+                }
+                let next = first_unserved(
+                    question,
+                    bars,
+                    &self.members,
+                    step.state,
+                    step.choice + 1,
+                );
+                if next < question.game().choices_of(step.state) {
+                    self.awaited[state] = next;
+                    return Ok(());
+                }
+            }
+        }
+        self.members[state] = true;
+        self.order.push(step.state)?;
+        Ok(())
+    }
+
+    /// Tests a state that is no member: it joins if the members attract it.
+    pub fn test<S: Bars>(
+        &mut self,
+        question: &Question,
+        bars: &S,
+        state: u32,
+    ) -> Result<(), OutOfMemory>
+        requires fits { S.fits bars.now question.now }
+        requires state { state < states question.now }
+        requires grown { IsAttractorSearch question.now (S.barred bars.now question.now)
+            [] self.old.members.items self.old.awaited.items self.old.order.items }
+        ensures longer { OnOk result (IsLonger self.old.order.items self.new.order.items) }
+        ensures grows { OnOk result (IsAttractorSearch question.now (S.barred bars.now question.now)
+            [] self.new.members.items self.new.awaited.items self.new.order.items) }
+        ensures larger { OnOk result (IsLarger self.old.members.items self.new.members.items) }
+        ensures others { OnOk result ((s : ℕ) → s ≢ state → slice_index self.new.awaited.items s
+            ≡ slice_index self.old.awaited.items s) }
+        ensures tested { OnOk result (slice_index_or self.new.members.items state false ≡ false
+            → (S.barred bars.now question.now).states state ≡ false
+            → IsTested question.now (S.barred bars.now question.now) self.old.members.items self.new.awaited.items
+            state) }
+    {
+        question.known();
+        let place = state as usize;
+        if self.members[place] || bars.bars_state(question, state) {
+            return Ok(());
+        }
+        match question.side(state) {
+            Side::Max => {
+                if !some_serves(question, bars, &self.members, state) {
+                    return Ok(());
+                }
+            }
+            Side::Min => {
+                let next = first_unserved(
+                    question,
+                    bars,
+                    &self.members,
+                    state,
+                    self.awaited[place],
+                );
+                if next < question.game().choices_of(state) {
+                    self.awaited[place] = next;
+                    return Ok(());
+                }
+            }
+        }
+        self.members[place] = true;
+        self.order.push(state)?;
+        Ok(())
+    }
+}

@@ -1,6 +1,0 @@
-use Rattle.rank_certificate.specs.inside.Growth.{IsOpened}
-use Rattle.rank_certificate.specs.inside.OfAsked.{value_in}
-use Rattle.rank_certificate.proofs.growth.Growth.of_unneeded.Given as goal
-
-abbrev pub invariant-loop-state : goal.invariant-loop-state
-invariant-loop-state l = IsOpened l.asked.question.now (value_in l.asked) l.state l.ranks.items l.order.items
