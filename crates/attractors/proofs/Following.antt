@@ -37,14 +37,14 @@ serves-more barred set more q s c larger h =
 
 -- a state of the minimiser waits for another choice from now on
 pub IsAttractorSearch-awaits : (q : Query) (barred : Barred) (followed : List Move) (members : List Bool)
-    (awaited order : List ℕ) (t next : ℕ) → IsAttractorSearch q barred followed members awaited order
+    (next_choice order : List ℕ) (t next : ℕ) → IsAttractorSearch q barred followed members next_choice order
     → t < states q → side_at q t ≡ Min → next < length (choices_of q.game t)
     → ((c : ℕ) → c < next → serves barred members (choice_of q.game t c) ≡ true)
     → serves barred members (choice_of q.game t next) ≡ false
-    → IsAttractorSearch q barred followed members (set awaited t next) order
-IsAttractorSearch-awaits q barred followed members awaited order t next h inside minimiser within before unserved =
-    let at : slice_index (set awaited t next) t ≡ next =
-    get_or-set_same awaited t next 0 (omega (arith, inside, h.as_many)) in
+    → IsAttractorSearch q barred followed members (set next_choice t next) order
+IsAttractorSearch-awaits q barred followed members next_choice order t next h inside minimiser within before unserved =
+    let at : slice_index (set next_choice t next) t ≡ next =
+    get_or-set_same next_choice t next 0 (omega (arith, inside, h.as_many)) in
     let new : Awaits q barred followed members t next = record {
       inside = within;
       before = before;
@@ -53,22 +53,22 @@ IsAttractorSearch-awaits q barred followed members awaited order t next h inside
           serves-by barred members (choice_of q.game t next) stays (h.leads t next among) in
           cc;
     } in
-    let here : IsLeft q barred followed members (set awaited t next) t = record {
+    let here : IsLeft q barred followed members (set next_choice t next) t = record {
       greatest = λ is_side c lc stays among. sides-differ (side_at q t) is_side minimiser;
       least = λ is_side. subst (Awaits q barred followed members t) (sym at) new;
     } in
     record {
       many = h.many;
-      as_many = length-set awaited t next ∙ h.as_many;
+      as_many = length-set next_choice t next ∙ h.as_many;
       ordered = h.ordered;
       grew = h.grew;
       leads = h.leads;
       left = λ s l out within. elim (cases_eq s t) [
-        | inl same ↦ subst (IsLeft q barred followed members (set awaited t next)) (sym same) here
+        | inl same ↦ subst (IsLeft q barred followed members (set next_choice t next)) (sym same) here
         | inr other ↦
-            let kept : slice_index (set awaited t next) s ≡ slice_index awaited s =
-            get_or-set_other awaited t s next 0 other in
-            let old : IsLeft q barred followed members awaited s = h.left s l out within in
+            let kept : slice_index (set next_choice t next) s ≡ slice_index next_choice s =
+            get_or-set_other next_choice t s next 0 other in
+            let old : IsLeft q barred followed members next_choice s = h.left s l out within in
             record {
               greatest = old.greatest;
               least = λ is_side. subst (Awaits q barred followed members s) (sym kept) (old.least is_side);
@@ -78,10 +78,10 @@ IsAttractorSearch-awaits q barred followed members awaited order t next h inside
 
 -- a state that is attracted joins
 pub IsAttractorSearch-member : (q : Query) (barred : Barred) (followed : List Move) (members : List Bool)
-    (awaited order : List ℕ) (t : ℕ) → IsAttractorSearch q barred followed members awaited order → t < states q
+    (next_choice order : List ℕ) (t : ℕ) → IsAttractorSearch q barred followed members next_choice order → t < states q
     → slice_index_or members t false ≡ false → barred.states t ≡ false → is_attracted q barred members t ≡ true
-    → IsAttractorSearch q barred followed (set members t true) awaited (order ++ t ∷ [])
-IsAttractorSearch-member q barred followed members awaited order t h inside out within drawn =
+    → IsAttractorSearch q barred followed (set members t true) next_choice (order ++ t ∷ [])
+IsAttractorSearch-member q barred followed members next_choice order t h inside out within drawn =
     let place : t < length members = omega (arith, inside, h.many) in
     let larger : (s : ℕ) → slice_index_or members s false ≡ true → slice_index_or (set members t true) s false ≡ true =
     λ s member. stays-member members t s place member in
@@ -97,7 +97,7 @@ IsAttractorSearch-member q barred followed members awaited order t h inside out 
             ap (λ u. slice_index_or (set members t true) u false) same ∙ get_or-set_same members t true false place in
             absurd (cc)
         | inr other ↦
-            let old : IsLeft q barred followed members awaited s =
+            let old : IsLeft q barred followed members next_choice s =
             h.left s l (sym (get_or-set_other members t s true false other) ∙ out') inner in
             record {
               greatest = old.greatest;
@@ -121,8 +121,8 @@ before-next q barred members t choice next old passed c l = elim (cases_lt c cho
   | inr upward ↦ passed c upward l
 ]
 
-module _ (q : Query) (barred : Barred) (followed : List Move) (members : List Bool) (awaited order : List ℕ) (m : Move)
-    (leads : LeadsIn q.game members m) (h : IsAttractorSearch q barred followed members awaited order) where
+module _ (q : Query) (barred : Barred) (followed : List Move) (members : List Bool) (next_choice order : List ℕ) (m : Move)
+    (leads : LeadsIn q.game members m) (h : IsAttractorSearch q barred followed members next_choice order) where
   meets-here : meets members (choice_of q.game m.state m.choice) ≡ true
   meets-here = meets-at members (choice_of q.game m.state m.choice) leads.to leads.leads.successor leads.member
 
@@ -136,9 +136,9 @@ module _ (q : Query) (barred : Barred) (followed : List Move) (members : List Bo
   -- a state of which no choice that it minds is that of the move is left as it was
   left-still : (s : ℕ)
       → (side_at q s ≡ Max → (c : ℕ) → barred.choices (choice_of q.game s c) ≡ false → m ≡ move s c → ⊥)
-      → (side_at q s ≡ Min → barred.choices (choice_of q.game s (slice_index awaited s)) ≡ false
-      → m ≡ move s (slice_index awaited s) → ⊥) → IsLeft q barred followed members awaited s
-      → IsLeft q barred (followed ++ m ∷ []) members awaited s
+      → (side_at q s ≡ Min → barred.choices (choice_of q.game s (slice_index next_choice s)) ≡ false
+      → m ≡ move s (slice_index next_choice s) → ⊥) → IsLeft q barred followed members next_choice s
+      → IsLeft q barred (followed ++ m ∷ []) members next_choice s
   left-still s greatest least old = record {
     greatest = λ is_side c lc stays among. elim (Contains-append_cases followed (m ∷ []) (move s c) among) [
       | inl earlier ↦ old.greatest is_side c lc stays earlier
@@ -147,9 +147,9 @@ module _ (q : Query) (barred : Barred) (followed : List Move) (members : List Bo
     least = λ is_side. record {
       inside = (old.least is_side).inside;
       before = (old.least is_side).before;
-      still = λ stays among. elim (Contains-append_cases followed (m ∷ []) (move s (slice_index awaited s)) among) [
+      still = λ stays among. elim (Contains-append_cases followed (m ∷ []) (move s (slice_index next_choice s)) among) [
         | inl earlier ↦ (old.least is_side).still stays earlier
-        | inr last ↦ least is_side stays (single m (move s (slice_index awaited s)) last)
+        | inr last ↦ least is_side stays (single m (move s (slice_index next_choice s)) last)
       ];
     };
   }
@@ -158,8 +158,8 @@ module _ (q : Query) (barred : Barred) (followed : List Move) (members : List Bo
   -- that waits for another choice
   pub IsAttractorSearch-noted : (slice_index_or members m.state false ≡ false
       → barred.states m.state ≡ false → barred.choices (choice_of q.game m.state m.choice) ≡ false
-      → (side_at q m.state ≡ Min) × (slice_index awaited m.state ≢ m.choice))
-      → IsAttractorSearch q barred (followed ++ m ∷ []) members awaited order
+      → (side_at q m.state ≡ Min) × (slice_index next_choice m.state ≢ m.choice))
+      → IsAttractorSearch q barred (followed ++ m ∷ []) members next_choice order
   IsAttractorSearch-noted idle = record {
     many = h.many;
     as_many = h.as_many;
@@ -178,7 +178,7 @@ module _ (q : Query) (barred : Barred) (followed : List Move) (members : List Bo
         let stays' : barred.choices (choice_of q.game m.state m.choice) ≡ false =
         subst (λ (x : Move). barred.choices (choice_of q.game x.state x.choice) ≡ false) (sym is) stays in
         (idle (ap (λ t. slice_index_or members t false) at ∙ out) (ap (λ t. barred.states t) at ∙ within) stays').1
-        (ap (slice_index awaited) at ∙ sym (ap (λ (x : Move). x.choice) is)))
+        (ap (slice_index next_choice) at ∙ sym (ap (λ (x : Move). x.choice) is)))
         (h.left s l out within);
   }
 
@@ -194,12 +194,12 @@ module _ (q : Query) (barred : Barred) (followed : List Move) (members : List Bo
 
   -- the choices before the next one
   passed-here : slice_index_or members m.state false ≡ false → barred.states m.state ≡ false → side_at q m.state ≡ Min
-      → slice_index awaited m.state ≡ m.choice → barred.choices (choice_of q.game m.state m.choice) ≡ false → (next : ℕ)
+      → slice_index next_choice m.state ≡ m.choice → barred.choices (choice_of q.game m.state m.choice) ≡ false → (next : ℕ)
       → ((c : ℕ) → m.choice + 1 ≤ c → c < next → serves barred members (choice_of q.game m.state c) ≡ true) → (c : ℕ)
       → c < next → serves barred members (choice_of q.game m.state c) ≡ true
-  passed-here out within minimiser is_awaited stays next passed =
+  passed-here out within minimiser is_next_choice stays next passed =
       let old : Awaits q barred followed members m.state m.choice = subst (Awaits q barred followed members m.state)
-      is_awaited ((h.left m.state leads.leads.state out within).least minimiser) in
+      is_next_choice ((h.left m.state leads.leads.state out within).least minimiser) in
       before-next q barred members m.state m.choice next old.before (λ c from upto. elim (cases_eq c m.choice) [
         | inl same ↦ ap (λ k. serves barred members (choice_of q.game m.state k)) same ∙ serves-here stays
         | inr later ↦ passed c (omega arith) upto
@@ -207,43 +207,43 @@ module _ (q : Query) (barred : Barred) (followed : List Move) (members : List Bo
 
   -- the last choice of the minimiser attracts its state
   pub attracted-least : slice_index_or members m.state false ≡ false → barred.states m.state ≡ false
-      → side_at q m.state ≡ Min → slice_index awaited m.state ≡ m.choice
+      → side_at q m.state ≡ Min → slice_index next_choice m.state ≡ m.choice
       → barred.choices (choice_of q.game m.state m.choice) ≡ false → ((c : ℕ) → m.choice + 1 ≤ c
       → c < length (choices_of q.game m.state) → serves barred members (choice_of q.game m.state c) ≡ true)
       → is_attracted q barred members m.state ≡ true
-  attracted-least out within minimiser is_awaited stays passed = attracts-all q barred members m.state minimiser
-      (passed-here out within minimiser is_awaited stays (length (choices_of q.game m.state)) passed)
+  attracted-least out within minimiser is_next_choice stays passed = attracts-all q barred members m.state minimiser
+      (passed-here out within minimiser is_next_choice stays (length (choices_of q.game m.state)) passed)
 
 -- the state of the move joins
 pub IsAttractorSearch-joins : (q : Query) (barred : Barred) (followed : List Move)
-    (members : List Bool) (awaited order : List ℕ) (m : Move) → LeadsIn q.game members m
-    → IsAttractorSearch q barred followed members awaited order → slice_index_or members m.state false ≡ false
+    (members : List Bool) (next_choice order : List ℕ) (m : Move) → LeadsIn q.game members m
+    → IsAttractorSearch q barred followed members next_choice order → slice_index_or members m.state false ≡ false
     → barred.states m.state ≡ false → is_attracted q barred members m.state ≡ true
-    → IsAttractorSearch q barred (followed ++ m ∷ []) (set members m.state true) awaited (order ++ m.state ∷ [])
-IsAttractorSearch-joins q barred followed members awaited order m leads h out within drawn =
+    → IsAttractorSearch q barred (followed ++ m ∷ []) (set members m.state true) next_choice (order ++ m.state ∷ [])
+IsAttractorSearch-joins q barred followed members next_choice order m leads h out within drawn =
     let inside : m.state < length members = omega (arith, leads.leads.state, h.many) in
     let leads' : LeadsIn q.game (set members m.state true) m =
     record { to = leads.to; leads = leads.leads; member = stays-member members m.state leads.to inside leads.member } in
-    IsAttractorSearch-noted q barred followed (set members m.state true) awaited (order ++ m.state ∷ []) m leads'
-    (IsAttractorSearch-member q barred followed members awaited order m.state h leads.leads.state out within drawn)
+    IsAttractorSearch-noted q barred followed (set members m.state true) next_choice (order ++ m.state ∷ []) m leads'
+    (IsAttractorSearch-member q barred followed members next_choice order m.state h leads.leads.state out within drawn)
     (λ out' within' stays. let member : slice_index_or (set members m.state true) m.state false ≡ true =
     get_or-set_same members m.state true false inside in absurd (cc))
 
 -- the state of the move waits for another choice
-pub IsAttractorSearch-waits : (q : Query) (barred : Barred) (followed : List Move) (members : List Bool) (awaited order : List ℕ)
-    (m : Move) (next : ℕ) → LeadsIn q.game members m → IsAttractorSearch q barred followed members awaited order
+pub IsAttractorSearch-waits : (q : Query) (barred : Barred) (followed : List Move) (members : List Bool) (next_choice order : List ℕ)
+    (m : Move) (next : ℕ) → LeadsIn q.game members m → IsAttractorSearch q barred followed members next_choice order
     → slice_index_or members m.state false ≡ false → barred.states m.state ≡ false → side_at q m.state ≡ Min
-    → slice_index awaited m.state ≡ m.choice → barred.choices (choice_of q.game m.state m.choice) ≡ false
+    → slice_index next_choice m.state ≡ m.choice → barred.choices (choice_of q.game m.state m.choice) ≡ false
     → m.choice < next → next < length (choices_of q.game m.state)
     → ((c : ℕ) → m.choice + 1 ≤ c → c < next → serves barred members (choice_of q.game m.state c) ≡ true)
     → serves barred members (choice_of q.game m.state next) ≡ false
-    → IsAttractorSearch q barred (followed ++ m ∷ []) members (set awaited m.state next) order
-IsAttractorSearch-waits q barred followed members awaited order m next leads h out within minimiser is_awaited stays later
+    → IsAttractorSearch q barred (followed ++ m ∷ []) members (set next_choice m.state next) order
+IsAttractorSearch-waits q barred followed members next_choice order m next leads h out within minimiser is_next_choice stays later
     inside passed unserved =
     let before : (c : ℕ) → c < next → serves barred members (choice_of q.game m.state c) ≡ true =
-    passed-here q barred followed members awaited order m leads h out within minimiser is_awaited stays next passed in
-    let at : slice_index (set awaited m.state next) m.state ≡ next =
-    get_or-set_same awaited m.state next 0 (omega (arith, leads.leads.state, h.as_many)) in
-    IsAttractorSearch-noted q barred followed members (set awaited m.state next) order m leads (IsAttractorSearch-awaits q barred followed
-    members awaited order m.state next h leads.leads.state minimiser inside before unserved)
+    passed-here q barred followed members next_choice order m leads h out within minimiser is_next_choice stays next passed in
+    let at : slice_index (set next_choice m.state next) m.state ≡ next =
+    get_or-set_same next_choice m.state next 0 (omega (arith, leads.leads.state, h.as_many)) in
+    IsAttractorSearch-noted q barred followed members (set next_choice m.state next) order m leads (IsAttractorSearch-awaits q barred followed
+    members next_choice order m.state next h leads.leads.state minimiser inside before unserved)
     (λ out' within' stays'. (minimiser, λ e. omega (arith, e, at, later)))

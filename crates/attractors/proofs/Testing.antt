@@ -28,41 +28,41 @@ smaller-fails q barred set more s c larger fails = elim (cases_Bool (serves barr
 ]
 
 -- a state that a set does not attract is not attracted by a smaller one
-IsTested-smaller : (q : Query) (barred : Barred) (set more : List Bool) (awaited : List ℕ) (s : ℕ) → IsLarger set more
-    → IsTested q barred more awaited s → IsTested q barred set awaited s
-IsTested-smaller q barred set more awaited s larger h = record {
+IsTested-smaller : (q : Query) (barred : Barred) (set more : List Bool) (next_choice : List ℕ) (s : ℕ) → IsLarger set more
+    → IsTested q barred more next_choice s → IsTested q barred set next_choice s
+IsTested-smaller q barred set more next_choice s larger h = record {
   greatest = λ is_side c lc. smaller-fails q barred set more s c larger (h.greatest is_side c lc);
-  least = λ is_side. smaller-fails q barred set more s (slice_index awaited s) larger (h.least is_side);
+  least = λ is_side. smaller-fails q barred set more s (slice_index next_choice s) larger (h.least is_side);
 }
 
 -- what the state waits for is all that counts
-IsTested-in : (q : Query) (barred : Barred) (set : List Bool) (awaited awaited' : List ℕ) (s : ℕ)
-    → slice_index awaited' s ≡ slice_index awaited s → IsTested q barred set awaited s
-    → IsTested q barred set awaited' s
-IsTested-in q barred set awaited awaited' s same h = record {
+IsTested-in : (q : Query) (barred : Barred) (set : List Bool) (next_choice next_choice' : List ℕ) (s : ℕ)
+    → slice_index next_choice' s ≡ slice_index next_choice s → IsTested q barred set next_choice s
+    → IsTested q barred set next_choice' s
+IsTested-in q barred set next_choice next_choice' s same h = record {
   greatest = h.greatest;
   least = λ is_side. subst (λ c. serves barred set (choice_of q.game s c) ≡ false) (sym same) (h.least is_side);
 }
 
 -- a state tested before the next one was
 pub AreTested-more : (q : Query) (barred : Barred) (old members members' : List Bool)
-    (awaited awaited' : List ℕ) (t : ℕ) → IsLarger old members → IsLarger members members'
-    → AreTested q barred old members awaited t → ((s : ℕ) → s ≢ t → slice_index awaited' s ≡ slice_index awaited s)
-    → (slice_index_or members' t false ≡ false → barred.states t ≡ false → IsTested q barred members awaited' t)
-    → AreTested q barred old members' awaited' (t + 1)
-AreTested-more q barred old members members' awaited awaited' t larger grown before others here s l out within =
+    (next_choice next_choice' : List ℕ) (t : ℕ) → IsLarger old members → IsLarger members members'
+    → AreTested q barred old members next_choice t → ((s : ℕ) → s ≢ t → slice_index next_choice' s ≡ slice_index next_choice s)
+    → (slice_index_or members' t false ≡ false → barred.states t ≡ false → IsTested q barred members next_choice' t)
+    → AreTested q barred old members' next_choice' (t + 1)
+AreTested-more q barred old members members' next_choice next_choice' t larger grown before others here s l out within =
     elim (cases_eq s t) [
       | inl same ↦
           subst
-          (λ u. slice_index_or members' u false ≡ false → barred.states u ≡ false → IsTested q barred old awaited' u)
+          (λ u. slice_index_or members' u false ≡ false → barred.states u ≡ false → IsTested q barred old next_choice' u)
           (sym same)
-          (λ out' within'. IsTested-smaller q barred old members awaited' t larger (here out' within')) out within
+          (λ out' within'. IsTested-smaller q barred old members next_choice' t larger (here out' within')) out within
       | inr other ↦
           let was_out : slice_index_or members s false ≡ false = elim (cases_Bool (slice_index_or members s false)) [
             | inl member ↦ let still : slice_index_or members' s false ≡ true = grown s member in absurd (cc)
             | inr left ↦ left
           ] in
-          IsTested-in q barred old awaited awaited' s (others s other) (before s (omega arith) was_out within)
+          IsTested-in q barred old next_choice next_choice' s (others s other) (before s (omega arith) was_out within)
     ]
 
 -- a move in these lists is in one of them
@@ -94,10 +94,10 @@ move-meets q lists set order s c are many ordered among =
 
 -- where each state that is left was tested, the moves to the tested set may count as followed
 pub IsAttractorSearch-tested : (q : Query) (barred : Barred) (lists : List (List Move)) (old members : List Bool)
-    (awaited order order' : List ℕ) → ArePredecessors q.game lists → length old ≡ states q
-    → IsOrder old order → IsLarger old members → AreTested q barred old members awaited (states q)
-    → IsAttractorSearch q barred [] members awaited order' → IsAttractorSearch q barred (moves_into lists order) members awaited order'
-IsAttractorSearch-tested q barred lists old members awaited order order' are many ordered larger tested h = record {
+    (next_choice order order' : List ℕ) → ArePredecessors q.game lists → length old ≡ states q
+    → IsOrder old order → IsLarger old members → AreTested q barred old members next_choice (states q)
+    → IsAttractorSearch q barred [] members next_choice order' → IsAttractorSearch q barred (moves_into lists order) members next_choice order'
+IsAttractorSearch-tested q barred lists old members next_choice order order' are many ordered larger tested h = record {
   many = h.many;
   as_many = h.as_many;
   ordered = h.ordered;
@@ -114,7 +114,7 @@ IsAttractorSearch-tested q barred lists old members awaited order order' are man
       inside = ((h.left s l out within).least is_side).inside;
       before = ((h.left s l out within).least is_side).before;
       still = λ free among.
-          let c : ℕ = slice_index awaited s in
+          let c : ℕ = slice_index next_choice s in
           let serve : serves barred old (choice_of q.game s c) ≡ true =
           serves-by barred old (choice_of q.game s c) free (move-meets q lists old order s c are many ordered among) in
           let fails : serves barred old (choice_of q.game s c) ≡ false = (tested s l out within).least is_side in

@@ -52,9 +52,9 @@ fn advance<S: Bars>(
     requires place { place < length search.old.order.items }
     requires grown { IsAttractorSearch question.now (S.barred bars.now question.now)
         (moves_into predecessors.now (take place search.old.order.items)) search.old.members.items
-        search.old.awaited.items search.old.order.items }
+        search.old.next_choice.items search.old.order.items }
     ensures { IfOk result (λ next. IsAdvanced question.now (S.barred bars.now question.now) predecessors.now place next
-        search.new.members.items search.new.awaited.items search.new.order.items) }
+        search.new.members.items search.new.next_choice.items search.new.order.items) }
 {
     question.known();
     let end = search.order.len();
@@ -79,11 +79,11 @@ fn go_back<S: Bars>(
     requires place { place < length search.old.order.items }
     requires grown { IsAttractorSearch question.now (S.barred bars.now question.now)
         (moves_into predecessors.now (take place search.old.order.items)) search.old.members.items
-        search.old.awaited.items search.old.order.items }
+        search.old.next_choice.items search.old.order.items }
     ensures longer { OnOk result (IsLonger search.old.order.items search.new.order.items) }
     ensures grown { OnOk result (IsAttractorSearch question.now (S.barred bars.now question.now)
         (moves_into predecessors.now (take (place + 1) search.new.order.items)) search.new.members.items
-        search.new.awaited.items search.new.order.items) }
+        search.new.next_choice.items search.new.order.items) }
 {
     let member = search.order[place];
     for step in predecessors.of_state(member) {
@@ -96,13 +96,13 @@ fn go_back<S: Bars>(
 fn test_all<S: Bars>(question: &Question, bars: &S, search: &mut AttractorSearch) -> Result<(), OutOfMemory>
     requires fits { S.fits bars.now question.now }
     requires grown { IsAttractorSearch question.now (S.barred bars.now question.now)
-        [] search.old.members.items search.old.awaited.items search.old.order.items }
+        [] search.old.members.items search.old.next_choice.items search.old.order.items }
     ensures longer { OnOk result (IsLonger search.old.order.items search.new.order.items) }
     ensures larger { OnOk result (IsLarger search.old.members.items search.new.members.items) }
     ensures grows { OnOk result (IsAttractorSearch question.now (S.barred bars.now question.now)
-        [] search.new.members.items search.new.awaited.items search.new.order.items) }
+        [] search.new.members.items search.new.next_choice.items search.new.order.items) }
     ensures tested { OnOk result (AreTested question.now (S.barred bars.now question.now) search.old.members.items
-        search.new.members.items search.new.awaited.items (states question.now)) }
+        search.new.members.items search.new.next_choice.items (states question.now)) }
 {
     for state in 0..question.game().states() {
         search.test(question, bars, state)?;

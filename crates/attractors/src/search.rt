@@ -18,7 +18,7 @@ use std::alloc::Global;
 #[derive(Drop)]
 pub struct AttractorSearch {
     pub members: Vec<bool>,
-    pub awaited: Vec<u32>,
+    pub next_choice: Vec<u32>,
     pub order: Vec<u32>,
 }
 
@@ -26,11 +26,11 @@ impl AttractorSearch {
     /// Begins with the goals as the only members.
     pub fn of_goals(alloc: Global, question: &Question) -> Result<AttractorSearch, OutOfMemory>
         ensures { IfOk result (λ g. (barred : Barred) → IsAttractorSearch question.now barred
-            [] g.members.items g.awaited.items g.order.items) }
+            [] g.members.items g.next_choice.items g.order.items) }
     {
         question.known();
         let states = question.game().states();
-        let awaited = vec![in alloc; 0u32; states as usize]?;
+        let next_choice = vec![in alloc; 0u32; states as usize]?;
         let mut members = Vec::with_capacity(alloc, states as usize)?;
         let mut order = Vec::with_capacity(alloc, states as usize)?;
         for state in 0..states {
@@ -42,7 +42,7 @@ impl AttractorSearch {
         }
         Ok(AttractorSearch {
             members,
-            awaited,
+            next_choice,
             order,
         })
     }
@@ -57,13 +57,13 @@ impl AttractorSearch {
     ) -> Result<(), OutOfMemory>
         requires fits { S.fits bars.now question.now }
         requires members { length self.old.members.items ≡ states question.now }
-        requires awaited { length self.old.awaited.items ≡ states question.now }
+        requires next_choice { length self.old.next_choice.items ≡ states question.now }
         requires leads { LeadsIn question.now.game self.old.members.items step }
         ensures longer { OnOk result (IsLonger self.old.order.items self.new.order.items) }
         ensures grows { OnOk result ((followed : List Move) → IsAttractorSearch question.now
-            (S.barred bars.now question.now) followed self.old.members.items self.old.awaited.items self.old.order.items
+            (S.barred bars.now question.now) followed self.old.members.items self.old.next_choice.items self.old.order.items
             → IsAttractorSearch question.now (S.barred bars.now question.now)
-            (followed ++ step ∷ []) self.new.members.items self.new.awaited.items self.new.order.items) }
+            (followed ++ step ∷ []) self.new.members.items self.new.next_choice.items self.new.order.items) }
     {
         question.known();
         let state = step.state as usize;
@@ -76,7 +76,7 @@ impl AttractorSearch {
         match question.side(step.state) {
             Side::Max => {}
             Side::Min => {
-                if self.awaited[state] != step.choice {
+                if self.next_choice[state] != step.choice {
                     return Ok(());
                 }
                 let next = first_unserved(
@@ -87,7 +87,7 @@ impl AttractorSearch {
                     step.choice + 1,
                 );
                 if next < question.game().choices_of(step.state) {
-                    self.awaited[state] = next;
+                    self.next_choice[state] = next;
                     return Ok(());
                 }
             }
@@ -107,16 +107,16 @@ impl AttractorSearch {
         requires fits { S.fits bars.now question.now }
         requires state { state < states question.now }
         requires grown { IsAttractorSearch question.now (S.barred bars.now question.now)
-            [] self.old.members.items self.old.awaited.items self.old.order.items }
+            [] self.old.members.items self.old.next_choice.items self.old.order.items }
         ensures longer { OnOk result (IsLonger self.old.order.items self.new.order.items) }
         ensures grows { OnOk result (IsAttractorSearch question.now (S.barred bars.now question.now)
-            [] self.new.members.items self.new.awaited.items self.new.order.items) }
+            [] self.new.members.items self.new.next_choice.items self.new.order.items) }
         ensures larger { OnOk result (IsLarger self.old.members.items self.new.members.items) }
-        ensures others { OnOk result ((s : ℕ) → s ≢ state → slice_index self.new.awaited.items s
-            ≡ slice_index self.old.awaited.items s) }
+        ensures others { OnOk result ((s : ℕ) → s ≢ state → slice_index self.new.next_choice.items s
+            ≡ slice_index self.old.next_choice.items s) }
         ensures tested { OnOk result (slice_index_or self.new.members.items state false ≡ false
             → (S.barred bars.now question.now).states state ≡ false
-            → IsTested question.now (S.barred bars.now question.now) self.old.members.items self.new.awaited.items
+            → IsTested question.now (S.barred bars.now question.now) self.old.members.items self.new.next_choice.items
             state) }
     {
         question.known();
@@ -136,10 +136,10 @@ impl AttractorSearch {
                     bars,
                     &self.members,
                     state,
-                    self.awaited[place],
+                    self.next_choice[place],
                 );
                 if next < question.game().choices_of(state) {
-                    self.awaited[place] = next;
+                    self.next_choice[place] = next;
                     return Ok(());
                 }
             }

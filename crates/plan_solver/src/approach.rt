@@ -23,10 +23,10 @@ pub struct Approach {
     pub toward: Vec<u32>,
     /// This many more choices of a state must lead on before it joins, or `ANY`. It is 0 if the state joined or is
     /// dead.
-    awaited: Vec<u32>,
+    next_choice: Vec<u32>,
     /// A choice is marked if it is one of the minimiser that leads on.
     followed: Vec<bool>,
-    ghost as_many: { vec_len awaited ≡ vec_len toward },
+    ghost as_many: { vec_len next_choice ≡ vec_len toward },
 }
 
 impl Approach {
@@ -58,12 +58,12 @@ impl Approach {
     fn of_goals(alloc: Global, question: &Question) -> Result<Approach, OutOfMemory> {
         let states = question.game().states();
         let mut order = Vec::with_capacity(alloc, states as usize)?;
-        let mut awaited = vec![in alloc; 0u32; states as usize]?;
+        let mut next_choice = vec![in alloc; 0u32; states as usize]?;
         for state in 0..states {
             if question.is_goal(state) {
                 order.push(state)?;
             } else if !question.is_dead(state) {
-                awaited[state as usize] = match question.side(state) {
+                next_choice[state as usize] = match question.side(state) {
                     Side::Max => ANY,
                     Side::Min => question.game().choices_of(state),
                 };
@@ -73,7 +73,7 @@ impl Approach {
         Ok(Approach {
             order,
             toward: vec![in alloc; NONE; states as usize]?,
-            awaited,
+            next_choice,
             followed: vec![in alloc; false; choices as usize]?,
         })
     }
@@ -81,10 +81,10 @@ impl Approach {
     /// Follows a choice that leads to a state that joined. Its own state joins if it waits for no other choice.
     fn follow(&mut self, question: &Question, step: Move) -> Result<(), OutOfMemory> {
         let state = step.state as usize;
-        if state >= self.awaited.len() {
+        if state >= self.next_choice.len() {
             return Ok(());
         }
-        let left = self.awaited[state];
+        let left = self.next_choice[state];
         if left == ANY {
             return self.join(step);
         }
@@ -96,9 +96,9 @@ impl Approach {
 
     /// Lets the state of a choice join by it.
     fn join(&mut self, step: Move) -> Result<(), OutOfMemory>
-        requires { step.state < vec_len self.old.awaited }
+        requires { step.state < vec_len self.old.next_choice }
     {
-        self.awaited[step.state as usize] = 0;
+        self.next_choice[step.state as usize] = 0;
         self.toward[step.state as usize] = step.choice;
         self.order.push(step.state)?;
         Ok(())
@@ -107,8 +107,8 @@ impl Approach {
     /// Notes that a choice of the minimiser leads on, when its state waits for this many. Returns whether it was the
     /// last one.
     fn is_last(&mut self, question: &Question, step: Move, left: u32) -> bool
-        requires { step.state < vec_len self.old.awaited }
-        ensures { vec_len self.new.awaited ≡ vec_len self.old.awaited }
+        requires { step.state < vec_len self.old.next_choice }
+        ensures { vec_len self.new.next_choice ≡ vec_len self.old.next_choice }
     {
         if step.state >= question.game().states() {
             return false;
@@ -118,7 +118,7 @@ impl Approach {
             return false;
         }
         self.followed[number] = true;
-        self.awaited[step.state as usize] = left.saturating_sub(1);
+        self.next_choice[step.state as usize] = left.saturating_sub(1);
         left == 1
     }
 }

@@ -16,16 +16,16 @@ pub fn trim(alloc: Global, mdp: &ReplyMdp<'_>, part: &mut [u32]) -> Result<(), O
     ensures keeps { OnOk result (KeepsEndsOf mdp.now part.new) }
 {
     let states = mdp.question.game().states();
-    let mut awaited = vec![in alloc; 0u32; states as usize]?;
+    let mut next_choice = vec![in alloc; 0u32; states as usize]?;
     let mut gone = Vec::new(alloc);
     for state in 0..states {
-        test(mdp, state, part, &mut awaited, &mut gone)?;
+        test(mdp, state, part, &mut next_choice, &mut gone)?;
     }
     for place in 0..states as usize {
         let Some(member) = gone.get(place).copied() else {
             break;
         };
-        follow_gone(mdp, member, part, &mut awaited, &mut gone)?;
+        follow_gone(mdp, member, part, &mut next_choice, &mut gone)?;
     }
     Ok(())
 }
@@ -35,19 +35,19 @@ fn follow_gone(
     mdp: &ReplyMdp<'_>,
     member: u32,
     part: &mut [u32],
-    awaited: &mut [u32],
+    next_choice: &mut [u32],
     gone: &mut Vec<u32>,
 ) -> Result<(), OutOfMemory>
-    requires many { length awaited.old ≡ states_in mdp.now }
+    requires many { length next_choice.old ≡ states_in mdp.now }
     requires keeps { KeepsEndsOf mdp.now part.old }
-    ensures many { OnOk result (length awaited.new ≡ states_in mdp.now) }
+    ensures many { OnOk result (length next_choice.new ≡ states_in mdp.now) }
     ensures keeps { OnOk result (KeepsEndsOf mdp.now part.new) }
 {
     if member >= mdp.question.game().states() {
         return Ok(());
     }
     for step in mdp.predecessors.of_state(member) {
-        test_again(mdp, *step, part, awaited, gone)?;
+        test_again(mdp, *step, part, next_choice, gone)?;
     }
     Ok(())
 }
@@ -57,19 +57,19 @@ fn test_again(
     mdp: &ReplyMdp<'_>,
     step: Move,
     part: &mut [u32],
-    awaited: &mut [u32],
+    next_choice: &mut [u32],
     gone: &mut Vec<u32>,
 ) -> Result<(), OutOfMemory>
     requires state { step.state < states_in mdp.now }
-    requires many { length awaited.old ≡ states_in mdp.now }
+    requires many { length next_choice.old ≡ states_in mdp.now }
     requires keeps { KeepsEndsOf mdp.now part.old }
-    ensures many { OnOk result (length awaited.new ≡ states_in mdp.now) }
+    ensures many { OnOk result (length next_choice.new ≡ states_in mdp.now) }
     ensures keeps { OnOk result (KeepsEndsOf mdp.now part.new) }
 {
-    if awaited[step.state as usize] != step.choice {
+    if next_choice[step.state as usize] != step.choice {
         return Ok(());
     }
-    test(mdp, step.state, part, awaited, gone)
+    test(mdp, step.state, part, next_choice, gone)
 }
 
 /// Tests a state from its awaited choice on. The state waits for the next internal choice, and loses its part if it has
@@ -78,13 +78,13 @@ fn test(
     mdp: &ReplyMdp<'_>,
     state: u32,
     part: &mut [u32],
-    awaited: &mut [u32],
+    next_choice: &mut [u32],
     gone: &mut Vec<u32>,
 ) -> Result<(), OutOfMemory>
     requires state { state < states_in mdp.now }
-    requires many { length awaited.old ≡ states_in mdp.now }
+    requires many { length next_choice.old ≡ states_in mdp.now }
     requires keeps { KeepsEndsOf mdp.now part.old }
-    ensures many { OnOk result (length awaited.new ≡ states_in mdp.now) }
+    ensures many { OnOk result (length next_choice.new ≡ states_in mdp.now) }
     ensures keeps { OnOk result (KeepsEndsOf mdp.now part.new) }
 {
     let place = state as usize;
@@ -92,8 +92,8 @@ fn test(
         return Ok(());
     }
     let choices = mdp.question.game().choices_of(state);
-    let next = mdp.next_internal(part, state, awaited[place].min(choices));
-    awaited[place] = next;
+    let next = mdp.next_internal(part, state, next_choice[place].min(choices));
+    next_choice[place] = next;
     if next < choices || mdp.next_internal(part, state, 0) < choices {
         return Ok(());
     }

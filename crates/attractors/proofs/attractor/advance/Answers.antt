@@ -16,10 +16,10 @@ returns-then-end-place g c =
       further = omega (arith, end, c.requires.place);
       within = omega (arith, end, longer-length old.order.items new.order.items c.in_ok-test_all.ensures.longer);
       grown = subst (λ (list : List ℕ). IsAttractorSearch q barred
-          (moves_into c.args.predecessors.now list) new.members.items new.awaited.items new.order.items)
+          (moves_into c.args.predecessors.now list) new.members.items new.next_choice.items new.order.items)
           (sym (ap (λ n. take n new.order.items) end
           ∙ take-longer old.order.items new.order.items c.in_ok-test_all.ensures.longer))
-          (IsAttractorSearch-tested q barred c.args.predecessors.now old.members.items new.members.items new.awaited.items
+          (IsAttractorSearch-tested q barred c.args.predecessors.now old.members.items new.members.items new.next_choice.items
           old.order.items new.order.items c.requires.lists c.requires.grown.many c.requires.grown.ordered
           c.in_ok-test_all.ensures.larger
           c.in_ok-test_all.ensures.tested c.in_ok-test_all.ensures.grows);

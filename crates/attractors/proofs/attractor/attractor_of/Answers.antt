@@ -10,9 +10,9 @@ returns g c =
     let q = c.args.question.now in
     let barred : Barred = g.S.Bars.barred c.args.bars.now q in
     let search = c.loop-place.search in
-    IsAttractor-grown q barred c.args.predecessors.now search.members.items search.awaited.items search.order.items
+    IsAttractor-grown q barred c.args.predecessors.now search.members.items search.next_choice.items search.order.items
     c.known.ensures c.requires.lists
     (subst (λ (list : List ℕ). IsAttractorSearch q barred
-    (moves_into c.args.predecessors.now list) search.members.items search.awaited.items search.order.items)
+    (moves_into c.args.predecessors.now list) search.members.items search.next_choice.items search.order.items)
     (take_all c.loop-place.place search.order.items
     (omega (arith, c.loop-place-test.false, c.len.ensures, search.order.ok.0))) c.loop-place.invariant.grown)

@@ -9,5 +9,5 @@ invariant-loop-step g l = record {
   longer : IsLonger l.fn.search.order.items l.search.order.items;
   grown : IsAttractorSearch l.question (g.S.Bars.barred l.bars l.question)
       (moves_into l.predecessors (take l.place l.fn.search.order.items) ++ take l.step-index l.step-items)
-      l.search.members.items l.search.awaited.items l.search.order.items;
+      l.search.members.items l.search.next_choice.items l.search.order.items;
 }

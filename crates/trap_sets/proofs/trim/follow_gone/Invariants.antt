@@ -5,6 +5,6 @@ use Rattle.trap_sets.proofs.trim.follow_gone.Given as goal
 
 abbrev pub invariant-loop-step : goal.invariant-loop-step
 invariant-loop-step l = record {
-  many : length l.awaited ≡ states l.mdp.question.now;
+  many : length l.next_choice ≡ states l.mdp.question.now;
   keeps : KeepsEnds l.mdp.question.now l.mdp.replies.now l.part;
 }

@@ -5,12 +5,12 @@ use Rattle.trap_sets.proofs.trim.trim.Given as goal
 
 abbrev pub invariant-loop-state : goal.invariant-loop-state
 invariant-loop-state l = record {
-  many : length l.awaited.items ≡ states l.mdp.question.now;
+  many : length l.next_choice.items ≡ states l.mdp.question.now;
   keeps : KeepsEnds l.mdp.question.now l.mdp.replies.now l.part;
 }
 
 abbrev pub invariant-loop-place : goal.invariant-loop-place
 invariant-loop-place l = record {
-  many : length l.awaited.items ≡ states l.mdp.question.now;
+  many : length l.next_choice.items ≡ states l.mdp.question.now;
   keeps : KeepsEnds l.mdp.question.now l.mdp.replies.now l.part;
 }

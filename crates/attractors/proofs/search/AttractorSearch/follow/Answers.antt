@@ -21,7 +21,7 @@ returns-then-index-clause-grows g c = λ followed h.
     let old = c.args.self.now in
     let member : c.index.result.now ≡ slice_index_or old.members.items state false = get_or_read old.members.items _ _
     (omega (arith, c.requires.members, c.requires.leads.leads.state)) c.index.ensures false in
-    IsAttractorSearch-noted q barred followed old.members.items old.awaited.items old.order.items c.args.step c.requires.leads h
+    IsAttractorSearch-noted q barred followed old.members.items old.next_choice.items old.order.items c.args.step c.requires.leads h
     (λ out within free. elim c.then-index.branch [
       | then-index-via-then-index w ↦ let is : c.index.result.now ≡ true = w.if-index.true in absurd (cc)
       | then-index-via-else-index+then-bars_state w ↦
@@ -37,10 +37,10 @@ pub returns-then-index-step-clause-grows : goal.returns-then-index-step-clause-g
 returns-then-index-step-clause-grows g c = λ followed h.
     let q = c.args.question.now in
     let old = c.args.self.now in
-    let awaits : c.index-in-Min.result.now ≡ slice_index old.awaited.items c.args.step.state =
-    get_or_read old.awaited.items _ _
-    (omega (arith, c.requires.awaited, c.requires.leads.leads.state)) c.index-in-Min.ensures 0 in
-    IsAttractorSearch-noted q (g.S.Bars.barred c.args.bars.now q) followed old.members.items old.awaited.items old.order.items
+    let awaits : c.index-in-Min.result.now ≡ slice_index old.next_choice.items c.args.step.state =
+    get_or_read old.next_choice.items _ _
+    (omega (arith, c.requires.next_choice, c.requires.leads.leads.state)) c.index-in-Min.ensures 0 in
+    IsAttractorSearch-noted q (g.S.Bars.barred c.args.bars.now q) followed old.members.items old.next_choice.items old.order.items
     c.args.step c.requires.leads h (λ out within free. (sym c.in-Min.ensures, λ e. c.if-index-step.true (awaits ∙ e)))
 
 pub returns-then-next-choices_of-clause-grows : goal.returns-then-next-choices_of-clause-grows
@@ -52,12 +52,12 @@ returns-then-next-choices_of-clause-grows g c = λ followed h.
     let next : ℕ = c.first_unserved-next.result in
     let member : c.index.result.now ≡ slice_index_or old.members.items state false = get_or_read old.members.items _ _
     (omega (arith, c.requires.members, c.requires.leads.leads.state)) c.index.ensures false in
-    let awaits : c.index-in-Min.result.now ≡ slice_index old.awaited.items state = get_or_read old.awaited.items _ _
-    (omega (arith, c.requires.awaited, c.requires.leads.leads.state)) c.index-in-Min.ensures 0 in
+    let awaits : c.index-in-Min.result.now ≡ slice_index old.next_choice.items state = get_or_read old.next_choice.items _ _
+    (omega (arith, c.requires.next_choice, c.requires.leads.leads.state)) c.index-in-Min.ensures 0 in
     let count : c.choices_of.result ≡ length (choices_of q.game state) =
     c.choices_of.ensures ∙ ap (λ list. length (choices_of list state)) c.game.ensures in
     let inside : next < length (choices_of q.game state) = omega (arith, count, c.if-next-choices_of.true) in
-    IsAttractorSearch-waits q barred followed old.members.items old.awaited.items old.order.items c.args.step next
+    IsAttractorSearch-waits q barred followed old.members.items old.next_choice.items old.order.items c.args.step next
     c.requires.leads h (sym member ∙ c.if-index.false) (sym c.if-bars_state.ensures) (sym c.in-Min.ensures)
     (sym awaits ∙ c.if-index-step.false) (sym c.if-bars_choice.ensures)
     (omega (arith, c.first_unserved-next.ensures.from)) inside
@@ -78,14 +78,14 @@ returns-clause-grows g c = λ followed h.
     let within : barred.states state ≡ false = sym c.if-bars_state.ensures in
     let out : slice_index_or old.members.items state false ≡ false = sym member ∙ c.if-index.false in
     let drawn : is_attracted q barred old.members.items state ≡ true = elim c.match-side.branch [
-      | in-Max w ↦ attracted-greatest q barred followed old.members.items old.awaited.items old.order.items c.args.step
+      | in-Max w ↦ attracted-greatest q barred followed old.members.items old.next_choice.items old.order.items c.args.step
           c.requires.leads h (sym w.in-Max.ensures) free
       | in-Min+else-index-step+else-next-choices_of w ↦
-          let awaits : w.index-in-Min.result.now ≡ slice_index old.awaited.items state = get_or_read old.awaited.items _
-          _ (omega (arith, c.requires.awaited, c.requires.leads.leads.state)) w.index-in-Min.ensures 0 in
+          let awaits : w.index-in-Min.result.now ≡ slice_index old.next_choice.items state = get_or_read old.next_choice.items _
+          _ (omega (arith, c.requires.next_choice, c.requires.leads.leads.state)) w.index-in-Min.ensures 0 in
           let count : w.choices_of.result ≡ length (choices_of q.game state) =
           w.choices_of.ensures ∙ ap (λ list. length (choices_of list state)) w.game.ensures in
-          attracted-least q barred followed old.members.items old.awaited.items old.order.items c.args.step
+          attracted-least q barred followed old.members.items old.next_choice.items old.order.items c.args.step
           c.requires.leads h out within (sym w.in-Min.ensures) (sym awaits ∙ w.if-index-step.false) free
           (subst (λ (set : List Bool). (k : ℕ) → c.args.step.choice + 1 ≤ k → k < length (choices_of q.game state)
           → serves barred set (choice_of q.game state k) ≡ true) w.deref.ensures.value
@@ -93,6 +93,6 @@ returns-clause-grows g c = λ followed h.
           w.first_unserved-next.ensures.before k from (omega (arith, upto, count, w.if-next-choices_of.false))))
     ] in
     subst (λ (list : List ℕ). IsAttractorSearch q barred (followed ++ c.args.step ∷ [])
-    (slice_set old.members.items state true) old.awaited.items list) (sym c.in_ok-push.ensures.items)
-    (IsAttractorSearch-joins q barred followed old.members.items old.awaited.items old.order.items c.args.step
+    (slice_set old.members.items state true) old.next_choice.items list) (sym c.in_ok-push.ensures.items)
+    (IsAttractorSearch-joins q barred followed old.members.items old.next_choice.items old.order.items c.args.step
     c.requires.leads h out within drawn)

@@ -26,21 +26,21 @@ returns-clause-grows g c =
           (ap (λ (set : List Bool). list_any (serves barred set) (choices_of q.game state)) (sym w.deref.ensures.value)
           ∙ sym w.if-not-some_serves.ensures)
       | in-Min+else-next-choices_of w ↦
-          let awaits : w.index-in-Min.result.now ≡ slice_index old.awaited.items state = get_or_read old.awaited.items _
+          let awaits : w.index-in-Min.result.now ≡ slice_index old.next_choice.items state = get_or_read old.next_choice.items _
           _ (omega (arith, c.requires.state, c.requires.grown.as_many)) w.index-in-Min.ensures 0 in
           let count : w.choices_of.result ≡ length (choices_of q.game state) =
           w.choices_of.ensures ∙ ap (λ list. length (choices_of list state)) w.game.ensures in
           attracts-all q barred old.members.items state (sym w.in-Min.ensures)
           (before-next q barred old.members.items state
-          (slice_index old.awaited.items state) (length (choices_of q.game state))
+          (slice_index old.next_choice.items state) (length (choices_of q.game state))
           ((c.requires.grown.left state c.requires.state out within).least (sym w.in-Min.ensures)).before
-          (subst (λ (set : List Bool). (k : ℕ) → slice_index old.awaited.items state ≤ k
+          (subst (λ (set : List Bool). (k : ℕ) → slice_index old.next_choice.items state ≤ k
           → k < length (choices_of q.game state) → serves barred set (choice_of q.game state k) ≡ true)
           w.deref-in-Min.ensures.value
           (λ k from upto. w.first_unserved-next.ensures.before k (omega (arith, from, awaits))
           (omega (arith, upto, count, w.if-next-choices_of.false)))))
     ] in
-    subst (λ (list : List ℕ). IsAttractorSearch q barred [] (slice_set old.members.items state true) old.awaited.items list)
+    subst (λ (list : List ℕ). IsAttractorSearch q barred [] (slice_set old.members.items state true) old.next_choice.items list)
     (sym c.in_ok-push.ensures.items)
-    (IsAttractorSearch-member q barred [] old.members.items old.awaited.items old.order.items state c.requires.grown
+    (IsAttractorSearch-member q barred [] old.members.items old.next_choice.items old.order.items state c.requires.grown
     c.requires.state out within drawn)

@@ -3,4 +3,4 @@ use Rattle.game_model.specs.Query.{states}
 use Rattle.plan_solver.proofs.approach.Approach.of_goals.Given as goal
 
 abbrev pub invariant-loop-state : goal.invariant-loop-state
-invariant-loop-state l = vec_len l.awaited ≡ states l.question
+invariant-loop-state l = vec_len l.next_choice ≡ states l.question
