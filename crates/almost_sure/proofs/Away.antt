@@ -26,7 +26,7 @@ use Rattle.attractors.proofs.Meeting.{meets-successor}
 use Rattle.attractors.proofs.Serving.{serves-not}
 use Rattle.attractors.proofs.Searching.{Grew-goals}
 use Rattle.almost_sure.specs.Values.{IsAway}
-use Rattle.almost_sure.specs.Barred.{gone_barred}
+use Rattle.almost_sure.specs.ExcludedSets.{gone_excluded}
 use Rattle.almost_sure.proofs.Powers.{pow-suc_left, pow-suc_both, pow-more}
 
 further : (n E p b d : ℕ) → 0 < d → n * E + p ≤ b → n * (E * d) + p ≤ b * d
@@ -220,8 +220,8 @@ choice-left : (q : Query) (gone set : List Bool) (e k : ℕ) (m : Distribution) 
     → IsChoiceOf q.game m → ((t : ℕ) → t < states q → slice_index_or gone t false ≡ true → IsAway q e t)
     → ((t : ℕ) → t < states q → slice_index_or set t false ≡ false → slice_index_or gone t false ≡ false
     → numerator q k t * denominator q.game ^ suc e + denominator q.game ^ k ≤ denominator q.game ^ (suc e + k))
-    → serves (gone_barred gone) set m ≡ false → IsFar q e k m
-choice-left q gone set e k m posed fits away left fails = elim (serves-not (gone_barred gone) set m fails) [
+    → serves (gone_excluded gone) set m ≡ false → IsFar q e k m
+choice-left q gone set e k m posed fits away left fails = elim (serves-not (gone_excluded gone) set m fails) [
   | inl leads ↦ far-by-one q gone e k m posed fits away leads
   | inr unmet ↦
       far-by-all q e k m fits
@@ -236,24 +236,24 @@ choice-left q gone set e k m posed fits away left fails = elim (serves-not (gone
 ]
 
 any-fails : (gone set : List Bool) (choices : List Distribution) (c : ℕ)
-    → c < length choices → list_any (serves (gone_barred gone) set) choices ≡ false
-    → serves (gone_barred gone) set (get_or choices c no_distribution) ≡ false
-any-fails gone set choices c l fails = AllByRecursion-at (λ m. serves (gone_barred gone) set m ≡ false) choices c
-    no_distribution l (any-none (serves (gone_barred gone) set) choices fails)
+    → c < length choices → list_any (serves (gone_excluded gone) set) choices ≡ false
+    → serves (gone_excluded gone) set (get_or choices c no_distribution) ≡ false
+any-fails gone set choices c l fails = AllByRecursion-at (λ m. serves (gone_excluded gone) set m ≡ false) choices c
+    no_distribution l (any-none (serves (gone_excluded gone) set) choices fails)
 
 side-left : (q : Query) (gone set : List Bool) (e k s : ℕ) → IsQuery q → s < states q
     → ((t : ℕ) → t < states q → slice_index_or gone t false ≡ true → IsAway q e t)
     → ((t : ℕ) → t < states q → slice_index_or set t false ≡ false → slice_index_or gone t false ≡ false
     → numerator q k t * denominator q.game ^ suc e + denominator q.game ^ k ≤ denominator q.game ^ (suc e + k))
-    → is_attracted q (gone_barred gone) set s ≡ false → SideIsFar q e k s
+    → is_attracted q (gone_excluded gone) set s ≡ false → SideIsFar q e k s
 side-left q gone set e k s posed inside away left fails = record {
   greatest = λ is_side c l. choice-left q gone set e k (choice_of q.game s c) posed
       (IsChoiceOf-choice_of q.game s c posed.game inside l) away left
       (any-fails gone set (choices_of q.game s) c l
-      (sym (ap (λ side. attracts side (gone_barred gone) set (choices_of q.game s)) is_side) ∙ fails));
+      (sym (ap (λ side. attracts side (gone_excluded gone) set (choices_of q.game s)) is_side) ∙ fails));
   least = λ is_side.
-      let one = all-place (serves (gone_barred gone) set) (choices_of q.game s) no_distribution
-      (sym (ap (λ side. attracts side (gone_barred gone) set (choices_of q.game s)) is_side) ∙ fails) in (
+      let one = all-place (serves (gone_excluded gone) set) (choices_of q.game s) no_distribution
+      (sym (ap (λ side. attracts side (gone_excluded gone) set (choices_of q.game s)) is_side) ∙ fails) in (
         one.0,
         one.1,
         choice-left q gone set e k (choice_of q.game s one.0) posed
@@ -266,14 +266,14 @@ lacks true member h out = let is : member ≡ true = h refl in absurd (cc)
 lacks false member h out = refl
 
 -- states that an inner set leaves are away by one more
-pub inner-away : (q : Query) (gone set : List Bool) (e : ℕ) → IsQuery q → IsAttractor q (gone_barred gone) set
+pub inner-away : (q : Query) (gone set : List Bool) (e : ℕ) → IsQuery q → IsAttractor q (gone_excluded gone) set
     → ((t : ℕ) → t < states q → slice_index_or gone t false ≡ true → IsAway q e t) → (k s : ℕ)
     → s < states q → slice_index_or set s false ≡ false → slice_index_or gone s false ≡ false
     → numerator q k s * denominator q.game ^ suc e + denominator q.game ^ k ≤ denominator q.game ^ (suc e + k)
 inner-away q gone set e posed inner away zero s inside out within = away-opening q (suc e) s posed
-    (lacks (is_goal q s) (slice_index_or set s false) (Grew-goals q (gone_barred gone) set inner.grew s inside) out)
+    (lacks (is_goal q s) (slice_index_or set s false) (Grew-goals q (gone_excluded gone) set inner.grew s inside) out)
 inner-away q gone set e posed inner away (suc k) s inside out within =
     away-step q e k s posed inside
-    (lacks (is_goal q s) (slice_index_or set s false) (Grew-goals q (gone_barred gone) set inner.grew s inside) out)
+    (lacks (is_goal q s) (slice_index_or set s false) (Grew-goals q (gone_excluded gone) set inner.grew s inside) out)
     (λ alive. side-left q gone set e k s posed inside away (λ t lt out' within'.
     inner-away q gone set e posed inner away k t lt out' within') (inner.closed s inside out within))

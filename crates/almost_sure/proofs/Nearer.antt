@@ -23,7 +23,7 @@ use Rattle.attractors.specs.Attractor.{serves, attracts, is_attracted, AreGoals,
 use Rattle.attractors.proofs.Tests.{any-place, any-none, all-each}
 use Rattle.attractors.proofs.Meeting.{meets-successor}
 use Rattle.attractors.proofs.Serving.{serves-both}
-use Rattle.almost_sure.specs.Barred.{gone_barred}
+use Rattle.almost_sure.specs.ExcludedSets.{gone_excluded}
 
 -- Where the states that are not gone miss the goals with a probability of at most g over the k-th power of the
 -- denominator, each member misses them so many steps later with one that is smaller by a fixed share.
@@ -77,10 +77,10 @@ scaled-nearer r w d x p g h same some sums =
 choice-nearer : (q : Query) (gone set : List Bool) (v : ℕ → ℕ) (p h g : ℕ) (m : Distribution) → 0 < denominator q.game
     → IsChoiceOf q.game m → ((t : ℕ) → t < states q → slice_index_or gone t false ≡ false → p ≤ v t + h)
     → ((t : ℕ) → t < states q → slice_index_or set t false ≡ true → p + g ≤ v t + h)
-    → serves (gone_barred gone) set m ≡ true
+    → serves (gone_excluded gone) set m ≡ true
     → denominator q.game * p + g ≤ denominator q.game / m.total * weighted_sum v m.edges + denominator q.game * h
 choice-nearer q gone set v p h g m positive fits outer inner serve =
-    let both = serves-both (gone_barred gone) set m serve in
+    let both = serves-both (gone_excluded gone) set m serve in
     let one = meets-successor set m both.1 in
     let edges : AllByRecursion (λ (e : Edge). (1 ≤ e.weight) × (p ≤ v e.to + h)) m.edges =
     AllByRecursion-both (λ (e : Edge). 1 ≤ e.weight) (λ (e : Edge). p ≤ v e.to + h) m.edges fits.weights
@@ -101,12 +101,12 @@ side-nearer : (q : Query) (gone set : List Bool) (v : ℕ → ℕ) (p h g s : �
     → side_at q s ≡ side → 0 < denominator q.game → AreChoicesOf q.game (choices_of q.game)
     → s < states q → ((t : ℕ) → t < states q → slice_index_or gone t false ≡ false → p ≤ v t + h)
     → ((t : ℕ) → t < states q → slice_index_or set t false ≡ true → p + g ≤ v t + h)
-    → attracts side (gone_barred gone) set (choices_of q.game s) ≡ true → denominator q.game * p + g
+    → attracts side (gone_excluded gone) set (choices_of q.game s) ≡ true → denominator q.game * p + g
     ≤ optimum (side_at q s) (λ m. denominator q.game / m.total * weighted_sum v m.edges) (choices_of q.game s)
     + denominator q.game * h
 side-nearer q gone set v p h g s Max is_side positive chosen inside outer inner drawn =
     let f : Distribution → ℕ = λ m. denominator q.game / m.total * weighted_sum v m.edges in
-    let one = any-place (serves (gone_barred gone) set) (choices_of q.game s) no_distribution drawn in
+    let one = any-place (serves (gone_excluded gone) set) (choices_of q.game s) no_distribution drawn in
     let here : denominator q.game * p + g ≤ f (choice_of q.game s one.0) + denominator q.game * h =
     choice-nearer q gone set v p h g (choice_of q.game s one.0) positive
     (AllByRecursion-at (IsChoiceOf q.game) (choices_of q.game s) one.0 no_distribution one.1 (chosen.each s))
@@ -121,10 +121,10 @@ side-nearer q gone set v p h g s Min is_side positive chosen inside outer inner 
     ≤ 1 * optimum (side_at q s) f (choices_of q.game s) + denominator q.game * h =
     optimum-affine (side_at q s) f f (denominator q.game * p + g) 0 1 (denominator q.game * h) (choices_of q.game s)
     (chosen.some s inside)
-    (AllByRecursion-weaker (λ m. IsChoiceOf q.game m × (serves (gone_barred gone) set m ≡ true)) _ (λ m fact.
+    (AllByRecursion-weaker (λ m. IsChoiceOf q.game m × (serves (gone_excluded gone) set m ≡ true)) _ (λ m fact.
     omega (arith, choice-nearer q gone set v p h g m positive fact.0 outer inner fact.1)) (choices_of q.game s)
-    (AllByRecursion-both (IsChoiceOf q.game) (λ m. serves (gone_barred gone) set m ≡ true) (choices_of q.game s)
-    (chosen.each s) (all-each (serves (gone_barred gone) set) (choices_of q.game s) drawn))) in
+    (AllByRecursion-both (IsChoiceOf q.game) (λ m. serves (gone_excluded gone) set m ≡ true) (choices_of q.game s)
+    (chosen.each s) (all-each (serves (gone_excluded gone) set) (choices_of q.game s) drawn))) in
     omega (arith, all)
 
 marked-nearer : (goal dead : Bool) (top x a b : ℕ) → dead ≡ false → a ≤ top + b → a ≤ x + b
@@ -139,7 +139,7 @@ attracted-nearer : (q : Query) (gone set : List Bool) (k n g s : ℕ) → IsQuer
     → denominator q.game ^ (k + n) ≤ numerator q (k + n) t + g * denominator q.game ^ n)
     → ((t : ℕ) → t < states q → slice_index_or set t false ≡ true
     → denominator q.game ^ (k + n) + g ≤ numerator q (k + n) t + g * denominator q.game ^ n)
-    → is_attracted q (gone_barred gone) set s ≡ true
+    → is_attracted q (gone_excluded gone) set s ≡ true
     → denominator q.game ^ suc (k + n) + g ≤ numerator q (suc (k + n)) s + g * denominator q.game ^ suc n
 unfolding numerator_of
 attracted-nearer q gone set k n g s posed inside alive outer inner drawn =
@@ -167,7 +167,7 @@ later-nearer q k n g s positive h =
 
 -- a state joins that is attracted
 ComesNearer-add : (q : Query) (gone members : List Bool) (i : ℕ) → IsQuery q → i < states q
-    → is_dead q i ≡ false → ComesNearer q gone members → is_attracted q (gone_barred gone) members i ≡ true
+    → is_dead q i ≡ false → ComesNearer q gone members → is_attracted q (gone_excluded gone) members i ≡ true
     → ComesNearer q gone (set members i true)
 ComesNearer-add q gone members i posed here alive near drawn = record {
   horizon = suc near.horizon;
@@ -206,7 +206,7 @@ alive-within false gone h within = refl
 
 -- so a set that grew comes nearer
 pub ComesNearer-grown : (q : Query) (gone set : List Bool) → IsQuery q
-    → ((s : ℕ) → s < states q → is_dead q s ≡ true → slice_index_or gone s false ≡ true) → Grew q (gone_barred gone) set
+    → ((s : ℕ) → s < states q → is_dead q s ≡ true → slice_index_or gone s false ≡ true) → Grew q (gone_excluded gone) set
     → ComesNearer q gone set
 ComesNearer-grown q gone _ posed deads (from_goals members goals) = ComesNearer-goals q gone members goals
 ComesNearer-grown q gone _ posed deads (with_state members s grew inside within drawn) =

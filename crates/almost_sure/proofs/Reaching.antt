@@ -11,7 +11,7 @@ use Rattle.game_model.specs.Values.{denominator, numerator}
 use Rattle.game_model.proofs.Choices.{denominator-pos}
 use Rattle.almost_sure.specs.Values.{IsAlmostSure, IsAway, AreAlmostSure}
 use Rattle.attractors.specs.Attractor.{IsAttractor}
-use Rattle.almost_sure.specs.Barred.{gone_barred}
+use Rattle.almost_sure.specs.ExcludedSets.{gone_excluded}
 use Rattle.almost_sure.specs.inside.Going.{how_many, IsGone}
 use Rattle.almost_sure.proofs.Away.{IsAway-more}
 use Rattle.almost_sure.proofs.Going.{IsGone-few}
@@ -76,7 +76,7 @@ IsAway-not_sure q e s posed away sure =
 
 -- where the inner set leaves no other state, it is the answer
 pub AreAlmostSure-inner : (q : Query) (inner : List Bool) → IsQuery q → IsGone q (map not inner)
-    → IsAttractor q (gone_barred (map not inner)) inner → AreAlmostSure q inner
+    → IsAttractor q (gone_excluded (map not inner)) inner → AreAlmostSure q inner
 AreAlmostSure-inner q inner posed gone drawn =
     let at : (s : ℕ) → s < states q → slice_index_or (map not inner) s false ≡ not (slice_index_or inner s false) =
     λ s inside. get_or-map not inner s false false (omega (arith, inside, drawn.many)) in

@@ -4,9 +4,9 @@ ghost use Rattle.std.specs.Prelude.{◌≡◌, length, IfOk};
 ghost use Rattle.game_model.specs.Query.{states};
 ghost use Rattle.predecessors.specs.Lists.{ArePredecessors};
 ghost use Rattle.attractors.specs.Attractor.{IsAttractor};
-ghost use Rattle.almost_sure.specs.Barred.{gone_barred, AreLeaving};
+ghost use Rattle.almost_sure.specs.ExcludedSets.{gone_excluded, AreLeaving};
 
-use attractors::{Bars, attractor_of, meets};
+use attractors::{Excluded, attractor_of, meets};
 use game_model::Question;
 use game_outside::OutOfMemory;
 use predecessors::{ChoiceFlags, Predecessors};
@@ -14,21 +14,21 @@ use std::alloc::Global;
 
 /// This bars the states that are gone, and the choices that lead to one.
 #[derive(Drop)]
-struct BarsGone<'a> {
+struct ExcludedGone<'a> {
     gone: &'a [bool],
     leaving: ChoiceFlags,
 }
 
-impl Bars for BarsGone<'_> {
+impl Excluded for ExcludedGone<'_> {
     ghost fits = { λ it q. (length it.gone.now ≡ states q) × AreLeaving q.game it.gone.now it.leaving };
 
-    ghost barred = { λ it _. gone_barred it.gone.now };
+    ghost excluded = { λ it _. gone_excluded it.gone.now };
 
-    fn bars_state(&self, _question: &Question, state: u32) -> bool {
+    fn excludes_state(&self, _question: &Question, state: u32) -> bool {
         self.gone[state as usize]
     }
 
-    fn bars_choice(&self, question: &Question, state: u32, choice: u32) -> bool {
+    fn excludes_choice(&self, question: &Question, state: u32, choice: u32) -> bool {
         self.leaving.has(question.game(), state, choice)
     }
 }
@@ -43,10 +43,10 @@ pub fn inner_set(
 ) -> Result<Vec<bool>, OutOfMemory>
     requires lists { ArePredecessors question.now.game predecessors.now }
     requires many { length gone.now ≡ states question.now }
-    ensures { IfOk result (λ set. IsAttractor question.now (gone_barred gone.now) set.items) }
+    ensures { IfOk result (λ set. IsAttractor question.now (gone_excluded gone.now) set.items) }
 {
     let leaving = leaving_choices(alloc, question, gone)?;
-    attractor_of(alloc, question, predecessors, &BarsGone { gone, leaving })
+    attractor_of(alloc, question, predecessors, &ExcludedGone { gone, leaving })
 }
 
 /// Says for each choice whether some successor is among these states.

@@ -14,16 +14,16 @@ use Rattle.predecessors.specs.declared.lists.Move.{Move}
 use Rattle.predecessors.specs.Moves.{move, LeadsTo}
 use Rattle.predecessors.specs.Lists.{ArePredecessors}
 use Rattle.predecessors.proofs.Listed.{listed-exactly}
-use Rattle.attractors.specs.Attractor.{Barred, meets, is_attracted, AreGoals, from_goals, IsAttractor}
+use Rattle.attractors.specs.Attractor.{ExcludedSets, meets, is_attracted, AreGoals, from_goals, IsAttractor}
 use Rattle.attractors.specs.Search.{moves_into, LeadsIn, IsOrder, IsLeft, IsAttractorSearch}
 use Rattle.attractors.proofs.Meeting.{meets-successor, destination-at}
 use Rattle.attractors.proofs.Serving.{serves-both, unserved-by, left-by-none, left-by-one}
 
 -- the goals alone have grown from no move
-pub IsAttractorSearch-goals : (q : Query) (barred : Barred) (members : List Bool) (next_choice order : List ℕ)
+pub IsAttractorSearch-goals : (q : Query) (excluded : ExcludedSets) (members : List Bool) (next_choice order : List ℕ)
     → IsQuery q → AreGoals q members → IsOrder members order → next_choice ≡ replicate (states q) 0
-    → IsAttractorSearch q barred [] members next_choice order
-IsAttractorSearch-goals q barred members next_choice order posed goals ordered first = record {
+    → IsAttractorSearch q excluded [] members next_choice order
+IsAttractorSearch-goals q excluded members next_choice order posed goals ordered first = record {
   many = goals.many;
   as_many = ap length first ∙ length-replicate (states q) 0;
   ordered = ordered;
@@ -54,11 +54,11 @@ Contains-moves_into lists (t ∷ order) u m (suc k, l, same) listed =
     (Contains-moves_into lists order u m (k, omega arith, same) listed)
 
 -- a choice that meets the members has been followed, once all moves to members have
-all-followed : (q : Query) (barred : Barred) (lists : List (List Move)) (members : List Bool)
+all-followed : (q : Query) (excluded : ExcludedSets) (lists : List (List Move)) (members : List Bool)
     (next_choice order : List ℕ) (s c : ℕ) → IsQuery q → ArePredecessors q.game lists
-    → IsAttractorSearch q barred (moves_into lists order) members next_choice order → s < states q → c < length (choices_of q.game s)
+    → IsAttractorSearch q excluded (moves_into lists order) members next_choice order → s < states q → c < length (choices_of q.game s)
     → meets members (choice_of q.game s c) ≡ true → Contains (moves_into lists order) (move s c)
-all-followed q barred lists members next_choice order s c posed are h ls lc meet =
+all-followed q excluded lists members next_choice order s c posed are h ls lc meet =
     let one : (k : ℕ) × (k < length (choice_of q.game s c).edges)
     × (slice_index_or members (get_or (choice_of q.game s c).edges k no_edge).to false ≡ true) =
     meets-successor members (choice_of q.game s c) meet in
@@ -70,30 +70,30 @@ all-followed q barred lists members next_choice order s c posed are h ls lc meet
     ((listed-exactly are s c u inside).1 leads)
 
 -- and then the side of a state that is left is not attracted
-side-left : (q : Query) (barred : Barred) (lists : List (List Move)) (members : List Bool)
+side-left : (q : Query) (excluded : ExcludedSets) (lists : List (List Move)) (members : List Bool)
     (next_choice order : List ℕ) (s : ℕ) (side : Side) → side_at q s ≡ side → IsQuery q → ArePredecessors q.game lists
-    → IsAttractorSearch q barred (moves_into lists order) members next_choice order → s < states q
-    → IsLeft q barred (moves_into lists order) members next_choice s → is_attracted q barred members s ≡ false
-side-left q barred lists members next_choice order s Max is_side posed are h l left =
-    left-by-none q barred members s is_side (λ c lc serve.
-    let both : (barred.choices (choice_of q.game s c) ≡ false) × (meets members (choice_of q.game s c) ≡ true) =
-    serves-both barred members (choice_of q.game s c) serve in
-    left.greatest is_side c lc both.0 (all-followed q barred lists members next_choice order s c posed are h l lc both.1))
-side-left q barred lists members next_choice order s Min is_side posed are h l left =
-    left-by-one q barred members s (slice_index next_choice s) is_side (left.least is_side).inside
-    (unserved-by barred members (choice_of q.game s (slice_index next_choice s))
-    (λ free meet. (left.least is_side).still free (all-followed q barred lists members next_choice order s
+    → IsAttractorSearch q excluded (moves_into lists order) members next_choice order → s < states q
+    → IsLeft q excluded (moves_into lists order) members next_choice s → is_attracted q excluded members s ≡ false
+side-left q excluded lists members next_choice order s Max is_side posed are h l left =
+    left-by-none q excluded members s is_side (λ c lc serve.
+    let both : (excluded.choices (choice_of q.game s c) ≡ false) × (meets members (choice_of q.game s c) ≡ true) =
+    serves-both excluded members (choice_of q.game s c) serve in
+    left.greatest is_side c lc both.0 (all-followed q excluded lists members next_choice order s c posed are h l lc both.1))
+side-left q excluded lists members next_choice order s Min is_side posed are h l left =
+    left-by-one q excluded members s (slice_index next_choice s) is_side (left.least is_side).inside
+    (unserved-by excluded members (choice_of q.game s (slice_index next_choice s))
+    (λ free meet. (left.least is_side).still free (all-followed q excluded lists members next_choice order s
     (slice_index next_choice s) posed are h l (left.least is_side).inside meet)))
 
 -- and no other state is
-pub IsAttractor-grown : (q : Query) (barred : Barred) (lists : List (List Move))
+pub IsAttractor-grown : (q : Query) (excluded : ExcludedSets) (lists : List (List Move))
     (members : List Bool) (next_choice order : List ℕ) → IsQuery q → ArePredecessors q.game lists
-    → IsAttractorSearch q barred (moves_into lists order) members next_choice order → IsAttractor q barred members
-IsAttractor-grown q barred lists members next_choice order posed are h = record {
+    → IsAttractorSearch q excluded (moves_into lists order) members next_choice order → IsAttractor q excluded members
+IsAttractor-grown q excluded lists members next_choice order posed are h = record {
   many = h.many;
   grew = h.grew;
   closed = λ s l out within.
-      side-left q barred lists members next_choice order s (side_at q s) refl posed are h l (h.left s l out within);
+      side-left q excluded lists members next_choice order s (side_at q s) refl posed are h l (h.left s l out within);
 }
 
 -- a move in the list of a member leads to it

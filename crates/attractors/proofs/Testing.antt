@@ -12,57 +12,57 @@ use Rattle.predecessors.specs.declared.lists.Move.{Move}
 use Rattle.predecessors.specs.Moves.{move, LeadsTo}
 use Rattle.predecessors.specs.Lists.{ArePredecessors}
 use Rattle.predecessors.proofs.Listed.{listed-exactly}
-use Rattle.attractors.specs.Attractor.{Barred, meets, serves}
+use Rattle.attractors.specs.Attractor.{ExcludedSets, meets, serves}
 use Rattle.attractors.specs.Search.{moves_into, IsOrder, IsAttractorSearch, IsLarger, IsTested, AreTested}
 use Rattle.attractors.proofs.Meeting.{meets-at, meets-more}
 use Rattle.attractors.proofs.Serving.{serves-by}
 use Rattle.attractors.proofs.Following.{serves-more}
 
-smaller-fails : (q : Query) (barred : Barred) (set more : List Bool) (s c : ℕ) → IsLarger set more
-    → serves barred more (choice_of q.game s c) ≡ false → serves barred set (choice_of q.game s c) ≡ false
-smaller-fails q barred set more s c larger fails = elim (cases_Bool (serves barred set (choice_of q.game s c))) [
+smaller-fails : (q : Query) (excluded : ExcludedSets) (set more : List Bool) (s c : ℕ) → IsLarger set more
+    → serves excluded more (choice_of q.game s c) ≡ false → serves excluded set (choice_of q.game s c) ≡ false
+smaller-fails q excluded set more s c larger fails = elim (cases_Bool (serves excluded set (choice_of q.game s c))) [
   | inl serve ↦
-      let too : serves barred more (choice_of q.game s c) ≡ true = serves-more barred set more q s c larger serve in
+      let too : serves excluded more (choice_of q.game s c) ≡ true = serves-more excluded set more q s c larger serve in
       absurd (cc)
   | inr not_ ↦ not_
 ]
 
 -- a state that a set does not attract is not attracted by a smaller one
-IsTested-smaller : (q : Query) (barred : Barred) (set more : List Bool) (next_choice : List ℕ) (s : ℕ) → IsLarger set more
-    → IsTested q barred more next_choice s → IsTested q barred set next_choice s
-IsTested-smaller q barred set more next_choice s larger h = record {
-  greatest = λ is_side c lc. smaller-fails q barred set more s c larger (h.greatest is_side c lc);
-  least = λ is_side. smaller-fails q barred set more s (slice_index next_choice s) larger (h.least is_side);
+IsTested-smaller : (q : Query) (excluded : ExcludedSets) (set more : List Bool) (next_choice : List ℕ) (s : ℕ) → IsLarger set more
+    → IsTested q excluded more next_choice s → IsTested q excluded set next_choice s
+IsTested-smaller q excluded set more next_choice s larger h = record {
+  greatest = λ is_side c lc. smaller-fails q excluded set more s c larger (h.greatest is_side c lc);
+  least = λ is_side. smaller-fails q excluded set more s (slice_index next_choice s) larger (h.least is_side);
 }
 
 -- what the state waits for is all that counts
-IsTested-in : (q : Query) (barred : Barred) (set : List Bool) (next_choice next_choice' : List ℕ) (s : ℕ)
-    → slice_index next_choice' s ≡ slice_index next_choice s → IsTested q barred set next_choice s
-    → IsTested q barred set next_choice' s
-IsTested-in q barred set next_choice next_choice' s same h = record {
+IsTested-in : (q : Query) (excluded : ExcludedSets) (set : List Bool) (next_choice next_choice' : List ℕ) (s : ℕ)
+    → slice_index next_choice' s ≡ slice_index next_choice s → IsTested q excluded set next_choice s
+    → IsTested q excluded set next_choice' s
+IsTested-in q excluded set next_choice next_choice' s same h = record {
   greatest = h.greatest;
-  least = λ is_side. subst (λ c. serves barred set (choice_of q.game s c) ≡ false) (sym same) (h.least is_side);
+  least = λ is_side. subst (λ c. serves excluded set (choice_of q.game s c) ≡ false) (sym same) (h.least is_side);
 }
 
 -- a state tested before the next one was
-pub AreTested-more : (q : Query) (barred : Barred) (old members members' : List Bool)
+pub AreTested-more : (q : Query) (excluded : ExcludedSets) (old members members' : List Bool)
     (next_choice next_choice' : List ℕ) (t : ℕ) → IsLarger old members → IsLarger members members'
-    → AreTested q barred old members next_choice t → ((s : ℕ) → s ≢ t → slice_index next_choice' s ≡ slice_index next_choice s)
-    → (slice_index_or members' t false ≡ false → barred.states t ≡ false → IsTested q barred members next_choice' t)
-    → AreTested q barred old members' next_choice' (t + 1)
-AreTested-more q barred old members members' next_choice next_choice' t larger grown before others here s l out within =
+    → AreTested q excluded old members next_choice t → ((s : ℕ) → s ≢ t → slice_index next_choice' s ≡ slice_index next_choice s)
+    → (slice_index_or members' t false ≡ false → excluded.states t ≡ false → IsTested q excluded members next_choice' t)
+    → AreTested q excluded old members' next_choice' (t + 1)
+AreTested-more q excluded old members members' next_choice next_choice' t larger grown before others here s l out within =
     elim (cases_eq s t) [
       | inl same ↦
           subst
-          (λ u. slice_index_or members' u false ≡ false → barred.states u ≡ false → IsTested q barred old next_choice' u)
+          (λ u. slice_index_or members' u false ≡ false → excluded.states u ≡ false → IsTested q excluded old next_choice' u)
           (sym same)
-          (λ out' within'. IsTested-smaller q barred old members next_choice' t larger (here out' within')) out within
+          (λ out' within'. IsTested-smaller q excluded old members next_choice' t larger (here out' within')) out within
       | inr other ↦
           let was_out : slice_index_or members s false ≡ false = elim (cases_Bool (slice_index_or members s false)) [
             | inl member ↦ let still : slice_index_or members' s false ≡ true = grown s member in absurd (cc)
             | inr left ↦ left
           ] in
-          IsTested-in q barred old next_choice next_choice' s (others s other) (before s (omega arith) was_out within)
+          IsTested-in q excluded old next_choice next_choice' s (others s other) (before s (omega arith) was_out within)
     ]
 
 -- a move in these lists is in one of them
@@ -93,11 +93,11 @@ move-meets q lists set order s c are many ordered among =
     meets-at set (choice_of q.game s c) one.0 leads.successor member
 
 -- where each state that is left was tested, the moves to the tested set may count as followed
-pub IsAttractorSearch-tested : (q : Query) (barred : Barred) (lists : List (List Move)) (old members : List Bool)
+pub IsAttractorSearch-tested : (q : Query) (excluded : ExcludedSets) (lists : List (List Move)) (old members : List Bool)
     (next_choice order order' : List ℕ) → ArePredecessors q.game lists → length old ≡ states q
-    → IsOrder old order → IsLarger old members → AreTested q barred old members next_choice (states q)
-    → IsAttractorSearch q barred [] members next_choice order' → IsAttractorSearch q barred (moves_into lists order) members next_choice order'
-IsAttractorSearch-tested q barred lists old members next_choice order order' are many ordered larger tested h = record {
+    → IsOrder old order → IsLarger old members → AreTested q excluded old members next_choice (states q)
+    → IsAttractorSearch q excluded [] members next_choice order' → IsAttractorSearch q excluded (moves_into lists order) members next_choice order'
+IsAttractorSearch-tested q excluded lists old members next_choice order order' are many ordered larger tested h = record {
   many = h.many;
   as_many = h.as_many;
   ordered = h.ordered;
@@ -106,18 +106,18 @@ IsAttractorSearch-tested q barred lists old members next_choice order order' are
       meets-more old members (choice_of q.game s c) larger (move-meets q lists old order s c are many ordered among);
   left = λ s l out within. record {
     greatest = λ is_side c lc free among.
-        let serve : serves barred old (choice_of q.game s c) ≡ true =
-        serves-by barred old (choice_of q.game s c) free (move-meets q lists old order s c are many ordered among) in
-        let fails : serves barred old (choice_of q.game s c) ≡ false = (tested s l out within).greatest is_side c lc in
+        let serve : serves excluded old (choice_of q.game s c) ≡ true =
+        serves-by excluded old (choice_of q.game s c) free (move-meets q lists old order s c are many ordered among) in
+        let fails : serves excluded old (choice_of q.game s c) ≡ false = (tested s l out within).greatest is_side c lc in
         cc;
     least = λ is_side. record {
       inside = ((h.left s l out within).least is_side).inside;
       before = ((h.left s l out within).least is_side).before;
       still = λ free among.
           let c : ℕ = slice_index next_choice s in
-          let serve : serves barred old (choice_of q.game s c) ≡ true =
-          serves-by barred old (choice_of q.game s c) free (move-meets q lists old order s c are many ordered among) in
-          let fails : serves barred old (choice_of q.game s c) ≡ false = (tested s l out within).least is_side in
+          let serve : serves excluded old (choice_of q.game s c) ≡ true =
+          serves-by excluded old (choice_of q.game s c) free (move-meets q lists old order s c are many ordered among) in
+          let fails : serves excluded old (choice_of q.game s c) ≡ false = (tested s l out within).least is_side in
           cc;
     };
   };

@@ -6,33 +6,33 @@ ghost use Rattle.game_model.specs.Game.{choices_of, choice_of};
 ghost use Rattle.game_model.specs.Query.{states};
 ghost use Rattle.attractors.specs.Attractor.{meets, serves};
 
-use crate::bars::Bars;
+use crate::excluded::Excluded;
 use game_model::Question;
 use std::alloc::{AllocError, Global};
 
-/// Returns the first choice of a state, from this one on, that is barred or has no successor in the set. If there is
+/// Returns the first choice of a state, from this one on, that is excluded or has no successor in the set. If there is
 /// none, it returns the number of choices.
-pub fn first_unserved<S: Bars>(
+pub fn first_unserved<S: Excluded>(
     question: &Question,
-    bars: &S,
+    excluded: &S,
     set: &[bool],
     state: u32,
     from: u32,
 ) -> u32
-    requires fits { S.fits bars.now question.now }
+    requires fits { S.fits excluded.now question.now }
     requires state { state < states question.now }
     requires from { from ≤ length (choices_of question.now.game state) }
     requires many { length set.now ≡ states question.now }
     ensures from { from ≤ result }
     ensures within { result ≤ length (choices_of question.now.game state) }
     ensures before { (c : ℕ) → from ≤ c → c < result
-        → serves (S.barred bars.now question.now) set.now (choice_of question.now.game state c) ≡ true }
+        → serves (S.excluded excluded.now question.now) set.now (choice_of question.now.game state c) ≡ true }
     ensures first { result < length (choices_of question.now.game state)
-        → serves (S.barred bars.now question.now) set.now (choice_of question.now.game state result) ≡ false }
+        → serves (S.excluded excluded.now question.now) set.now (choice_of question.now.game state result) ≡ false }
 {
     let count = question.game().choices_of(state);
     for choice in from..count {
-        if !serves(question, bars, set, state, choice) {
+        if !serves(question, excluded, set, state, choice) {
             return choice;
         }
     }
@@ -40,29 +40,29 @@ pub fn first_unserved<S: Bars>(
 }
 
 /// Returns whether some choice of a state serves.
-pub fn some_serves<S: Bars>(question: &Question, bars: &S, set: &[bool], state: u32) -> bool
-    requires fits { S.fits bars.now question.now }
+pub fn some_serves<S: Excluded>(question: &Question, excluded: &S, set: &[bool], state: u32) -> bool
+    requires fits { S.fits excluded.now question.now }
     requires state { state < states question.now }
     requires many { length set.now ≡ states question.now }
-    ensures { result ≡ list_any (serves (S.barred bars.now question.now) set.now) (choices_of question.now.game state) }
+    ensures { result ≡ list_any (serves (S.excluded excluded.now question.now) set.now) (choices_of question.now.game state) }
 {
     for choice in 0..question.game().choices_of(state) {
-        if serves(question, bars, set, state, choice) {
+        if serves(question, excluded, set, state, choice) {
             return true;
         }
     }
     false
 }
 
-/// Returns whether the choice is not barred and has a successor in the set.
-pub fn serves<S: Bars>(question: &Question, bars: &S, set: &[bool], state: u32, choice: u32) -> bool
-    requires fits { S.fits bars.now question.now }
+/// Returns whether the choice is not excluded and has a successor in the set.
+pub fn serves<S: Excluded>(question: &Question, excluded: &S, set: &[bool], state: u32, choice: u32) -> bool
+    requires fits { S.fits excluded.now question.now }
     requires state { state < states question.now }
     requires choice { choice < length (choices_of question.now.game state) }
     requires many { length set.now ≡ states question.now }
-    ensures { result ≡ serves (S.barred bars.now question.now) set.now (choice_of question.now.game state choice) }
+    ensures { result ≡ serves (S.excluded excluded.now question.now) set.now (choice_of question.now.game state choice) }
 {
-    !bars.bars_choice(question, state, choice) && meets(question, set, state, choice)
+    !excluded.excludes_choice(question, state, choice) && meets(question, set, state, choice)
 }
 
 /// Returns whether some successor of the choice is in the set.

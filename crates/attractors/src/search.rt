@@ -3,17 +3,17 @@
 ghost use Rattle.std.specs.Prelude.{◌≡◌, ◌≢◌, ℕ, ◌+◌, ◌<◌, List, [], ◌∷◌, ◌++◌, false, length, slice_index, slice_index_or, IfOk, OnOk};
 ghost use Rattle.game_model.specs.Growing.{IsLonger};
 ghost use Rattle.game_model.specs.Query.{states};
-ghost use Rattle.attractors.specs.Attractor.{Barred};
+ghost use Rattle.attractors.specs.Attractor.{ExcludedSets};
 ghost use Rattle.attractors.specs.Search.{LeadsIn, IsAttractorSearch, IsLarger, IsTested};
 
-use crate::bars::Bars;
+use crate::excluded::Excluded;
 use crate::membership::{first_unserved, some_serves};
 use game_model::{Question, Side};
 use game_outside::OutOfMemory;
 use predecessors::Move;
 use std::alloc::Global;
 
-/// `members` marks the members. `awaited` has, for each state of the minimiser that is neither a member nor barred, the
+/// `members` marks the members. `awaited` has, for each state of the minimiser that is neither a member nor excluded, the
 /// first choice that is not known to serve. `order` lists the members in the order in which they joined.
 #[derive(Drop)]
 pub struct AttractorSearch {
@@ -25,7 +25,7 @@ pub struct AttractorSearch {
 impl AttractorSearch {
     /// Begins with the goals as the only members.
     pub fn of_goals(alloc: Global, question: &Question) -> Result<AttractorSearch, OutOfMemory>
-        ensures { IfOk result (λ g. (barred : Barred) → IsAttractorSearch question.now barred
+        ensures { IfOk result (λ g. (excluded : ExcludedSets) → IsAttractorSearch question.now excluded
             [] g.members.items g.next_choice.items g.order.items) }
     {
         question.known();
@@ -47,29 +47,29 @@ impl AttractorSearch {
         })
     }
 
-    /// Follows a move that leads to a member, if neither its state nor its choice is barred. A state of the maximiser
+    /// Follows a move that leads to a member, if neither its state nor its choice is excluded. A state of the maximiser
     /// joins by it. A state of the minimiser joins if it waited for this choice and each later one serves.
-    pub fn follow<S: Bars>(
+    pub fn follow<S: Excluded>(
         &mut self,
         question: &Question,
-        bars: &S,
+        excluded: &S,
         step: Move,
     ) -> Result<(), OutOfMemory>
-        requires fits { S.fits bars.now question.now }
+        requires fits { S.fits excluded.now question.now }
         requires members { length self.old.members.items ≡ states question.now }
         requires next_choice { length self.old.next_choice.items ≡ states question.now }
         requires leads { LeadsIn question.now.game self.old.members.items step }
         ensures longer { OnOk result (IsLonger self.old.order.items self.new.order.items) }
         ensures grows { OnOk result ((followed : List Move) → IsAttractorSearch question.now
-            (S.barred bars.now question.now) followed self.old.members.items self.old.next_choice.items self.old.order.items
-            → IsAttractorSearch question.now (S.barred bars.now question.now)
+            (S.excluded excluded.now question.now) followed self.old.members.items self.old.next_choice.items self.old.order.items
+            → IsAttractorSearch question.now (S.excluded excluded.now question.now)
             (followed ++ step ∷ []) self.new.members.items self.new.next_choice.items self.new.order.items) }
     {
         question.known();
         let state = step.state as usize;
         if self.members[state]
-            || bars.bars_state(question, step.state)
-            || bars.bars_choice(question, step.state, step.choice)
+            || excluded.excludes_state(question, step.state)
+            || excluded.excludes_choice(question, step.state, step.choice)
         {
             return Ok(());
         }
@@ -81,7 +81,7 @@ impl AttractorSearch {
                 }
                 let next = first_unserved(
                     question,
-                    bars,
+                    excluded,
                     &self.members,
                     step.state,
                     step.choice + 1,
@@ -98,42 +98,42 @@ impl AttractorSearch {
     }
 
     /// Tests a state that is no member: it joins if the members attract it.
-    pub fn test<S: Bars>(
+    pub fn test<S: Excluded>(
         &mut self,
         question: &Question,
-        bars: &S,
+        excluded: &S,
         state: u32,
     ) -> Result<(), OutOfMemory>
-        requires fits { S.fits bars.now question.now }
+        requires fits { S.fits excluded.now question.now }
         requires state { state < states question.now }
-        requires grown { IsAttractorSearch question.now (S.barred bars.now question.now)
+        requires grown { IsAttractorSearch question.now (S.excluded excluded.now question.now)
             [] self.old.members.items self.old.next_choice.items self.old.order.items }
         ensures longer { OnOk result (IsLonger self.old.order.items self.new.order.items) }
-        ensures grows { OnOk result (IsAttractorSearch question.now (S.barred bars.now question.now)
+        ensures grows { OnOk result (IsAttractorSearch question.now (S.excluded excluded.now question.now)
             [] self.new.members.items self.new.next_choice.items self.new.order.items) }
         ensures larger { OnOk result (IsLarger self.old.members.items self.new.members.items) }
         ensures others { OnOk result ((s : ℕ) → s ≢ state → slice_index self.new.next_choice.items s
             ≡ slice_index self.old.next_choice.items s) }
         ensures tested { OnOk result (slice_index_or self.new.members.items state false ≡ false
-            → (S.barred bars.now question.now).states state ≡ false
-            → IsTested question.now (S.barred bars.now question.now) self.old.members.items self.new.next_choice.items
+            → (S.excluded excluded.now question.now).states state ≡ false
+            → IsTested question.now (S.excluded excluded.now question.now) self.old.members.items self.new.next_choice.items
             state) }
     {
         question.known();
         let place = state as usize;
-        if self.members[place] || bars.bars_state(question, state) {
+        if self.members[place] || excluded.excludes_state(question, state) {
             return Ok(());
         }
         match question.side(state) {
             Side::Max => {
-                if !some_serves(question, bars, &self.members, state) {
+                if !some_serves(question, excluded, &self.members, state) {
                     return Ok(());
                 }
             }
             Side::Min => {
                 let next = first_unserved(
                     question,
-                    bars,
+                    excluded,
                     &self.members,
                     state,
                     self.next_choice[place],

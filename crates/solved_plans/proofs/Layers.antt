@@ -20,7 +20,7 @@ use Rattle.attractors.proofs.Tests.{any-place, any-none, all-each}
 use Rattle.attractors.proofs.Meeting.{meets-successor}
 use Rattle.attractors.proofs.Serving.{serves-both}
 use Rattle.almost_sure.specs.Values.{IsAway, AreAlmostSure}
-use Rattle.almost_sure.specs.Barred.{gone_barred}
+use Rattle.almost_sure.specs.ExcludedSets.{gone_excluded}
 use Rattle.almost_sure.proofs.Away.{away-opening, away-step}
 use Rattle.solved_plans.proofs.Missing.{IsAwayFor, both-ways, side-left}
 use Rattle.solved_plans.proofs.Tests.{or-left, or-right, or-in, or-new, and-second, and-last, not-in, not-out}
@@ -30,7 +30,7 @@ use Rattle.solved_plans.proofs.Tests.{or-left, or-right, or-in, or-new, and-seco
 abbrev layer : Query → List Bool → ℕ → List Bool
 layer q gone zero = map (λ s. is_goal q s) (range_with_len 0 (states q))
 layer q gone (suc r) = map (λ s. slice_index_or (layer q gone r) s false
-    || (not (slice_index_or gone s false) && is_attracted q (gone_barred gone) (layer q gone r) s))
+    || (not (slice_index_or gone s false) && is_attracted q (gone_excluded gone) (layer q gone r) s))
     (range_with_len 0 (states q))
 
 -- a choice that stays among the marked states, and has a successor of smaller rank
@@ -54,9 +54,9 @@ module _ (q : Query) (posed : IsQuery q) (marks : List Bool) (sure : AreAlmostSu
 
   next-at : (r s : ℕ) → s < states q
       → slice_index_or (layer q gone (suc r)) s false ≡ (slice_index_or (layer q gone r) s false
-      || (not (slice_index_or gone s false) && is_attracted q (gone_barred gone) (layer q gone r) s))
+      || (not (slice_index_or gone s false) && is_attracted q (gone_excluded gone) (layer q gone r) s))
   next-at r s inside = get_or-map-range_with_len (λ t. slice_index_or (layer q gone r) t false
-      || (not (slice_index_or gone t false) && is_attracted q (gone_barred gone) (layer q gone r) t)) 0
+      || (not (slice_index_or gone t false) && is_attracted q (gone_excluded gone) (layer q gone r) t)) 0
       (states q) s s false inside (omega arith)
 
   -- layers grow from the goals
@@ -81,7 +81,7 @@ module _ (q : Query) (posed : IsQuery q) (marks : List Bool) (sure : AreAlmostSu
   missed zero s inside out within = away-opening q (suc (states q)) s posed (has-goals zero s inside out)
   missed (suc r) s inside out within =
       let was : slice_index_or (layer q gone r) s false ≡ false = or-left _ _ (sym (next-at r s inside) ∙ out) in
-      let apart : is_attracted q (gone_barred gone) (layer q gone r) s ≡ false =
+      let apart : is_attracted q (gone_excluded gone) (layer q gone r) s ≡ false =
       and-second _ _ (ap not within) (or-right _ _ (sym (next-at r s inside) ∙ out)) in
       away-step q (states q) r s posed inside (has-goals r s inside was)
       (λ alive. side-left q gone (layer q gone r) (states q) r posed away
@@ -141,7 +141,7 @@ module _ (q : Query) (posed : IsQuery q) (marks : List Bool) (sure : AreAlmostSu
 
   -- the first layer of a sure state that is no goal is a later one, and the one before attracts it
   before : (s : ℕ) → s < states q → slice_index_or marks s false ≡ true → is_goal q s ≡ false → (r : ℕ) → IsFirst s r
-      → (j : ℕ) × (suc j ≡ r) × (is_attracted q (gone_barred gone) (layer q gone j) s ≡ true)
+      → (j : ℕ) × (suc j ≡ r) × (is_attracted q (gone_excluded gone) (layer q gone j) s ≡ true)
   before s inside marked other zero first =
       absurd (let is : is_goal q s ≡ true = sym (first-at s inside) ∙ first.0 in cc)
   before s inside marked other (suc j) first = (
@@ -155,9 +155,9 @@ module _ (q : Query) (posed : IsQuery q) (marks : List Bool) (sure : AreAlmostSu
 
   -- a choice that serves a layer
   nears : (s j : ℕ) → suc j ≡ (ranking s).0 → (m : Distribution) → IsChoiceOf q.game m
-      → serves (gone_barred gone) (layer q gone j) m ≡ true → Nears q marks (λ t. (ranking t).0) s m
+      → serves (gone_excluded gone) (layer q gone j) m ≡ true → Nears q marks (λ t. (ranking t).0) s m
   nears s j is m fits h =
-      let both = serves-both (gone_barred gone) (layer q gone j) m h in
+      let both = serves-both (gone_excluded gone) (layer q gone j) m h in
       let one = meets-successor (layer q gone j) m both.1 in
       let all : AllByRecursion (λ e. (e.to < states q) × (slice_index_or marks e.to false ≡ true)) m.edges =
       AllByRecursion-weaker (λ (e : Edge). (e.to < states q) × (slice_index_or gone e.to false ≡ false)) _
@@ -174,10 +174,10 @@ module _ (q : Query) (posed : IsQuery q) (marks : List Bool) (sure : AreAlmostSu
   nearing = record {
     greatest = λ s inside marked other side.
         let last = before s inside marked other (ranking s).0 ((ranking s).1 inside marked) in
-        let attracted : attracts Max (gone_barred gone) (layer q gone last.0) (choices_of q.game s) ≡ true =
-        sym (ap (λ p. attracts p (gone_barred gone) (layer q gone last.0) (choices_of q.game s)) side) ∙ last.2 in
+        let attracted : attracts Max (gone_excluded gone) (layer q gone last.0) (choices_of q.game s) ≡ true =
+        sym (ap (λ p. attracts p (gone_excluded gone) (layer q gone last.0) (choices_of q.game s)) side) ∙ last.2 in
         let one =
-        any-place (serves (gone_barred gone) (layer q gone last.0)) (choices_of q.game s) no_distribution attracted in (
+        any-place (serves (gone_excluded gone) (layer q gone last.0)) (choices_of q.game s) no_distribution attracted in (
           one.0,
           one.1,
           nears s last.0 last.1 (choice_of q.game s one.0)
@@ -185,12 +185,12 @@ module _ (q : Query) (posed : IsQuery q) (marks : List Bool) (sure : AreAlmostSu
         );
     least = λ s inside marked other side c within.
         let last = before s inside marked other (ranking s).0 ((ranking s).1 inside marked) in
-        let attracted : attracts Min (gone_barred gone) (layer q gone last.0) (choices_of q.game s) ≡ true =
-        sym (ap (λ p. attracts p (gone_barred gone) (layer q gone last.0) (choices_of q.game s)) side) ∙ last.2 in
+        let attracted : attracts Min (gone_excluded gone) (layer q gone last.0) (choices_of q.game s) ≡ true =
+        sym (ap (λ p. attracts p (gone_excluded gone) (layer q gone last.0) (choices_of q.game s)) side) ∙ last.2 in
         nears s last.0 last.1 (choice_of q.game s c) (IsChoiceOf-choice_of q.game s c posed.game inside within)
-        (AllByRecursion-at (λ m. serves (gone_barred gone) (layer q gone last.0) m ≡ true)
+        (AllByRecursion-at (λ m. serves (gone_excluded gone) (layer q gone last.0) m ≡ true)
         (choices_of q.game s) c no_distribution within
-        (all-each (serves (gone_barred gone) (layer q gone last.0)) (choices_of q.game s) attracted));
+        (all-each (serves (gone_excluded gone) (layer q gone last.0)) (choices_of q.game s) attracted));
   }
 
 -- so the almost-sure states have ranks

@@ -15,7 +15,7 @@ use Rattle.attractors.specs.Attractor.{serves, attracts, is_attracted}
 use Rattle.attractors.proofs.Tests.{any-none, all-place}
 use Rattle.attractors.proofs.Serving.{serves-not}
 use Rattle.almost_sure.specs.Values.{IsAway}
-use Rattle.almost_sure.specs.Barred.{gone_barred}
+use Rattle.almost_sure.specs.ExcludedSets.{gone_excluded}
 use Rattle.almost_sure.proofs.Away.{IsFar, SideIsFar, IsAway-more, far-by-one, far-by-all}
 
 -- the value after k steps is at most 1, less one over the e-th power of the denominator
@@ -33,8 +33,8 @@ module _ (q : Query) (gone set : List Bool) (e k : ℕ) (posed : IsQuery q)
     (left : (t : ℕ) → t < states q → slice_index_or set t false ≡ false → slice_index_or gone t false ≡ false
     → IsAwayFor q (suc e) k t) where
   -- a choice that leads to a gone state, or to none of the set
-  choice-left : (m : Distribution) → IsChoiceOf q.game m → serves (gone_barred gone) set m ≡ false → IsFar q e k m
-  choice-left m fits fails = elim (serves-not (gone_barred gone) set m fails) [
+  choice-left : (m : Distribution) → IsChoiceOf q.game m → serves (gone_excluded gone) set m ≡ false → IsFar q e k m
+  choice-left m fits fails = elim (serves-not (gone_excluded gone) set m fails) [
     | inl leads ↦ far-by-one q gone e k m posed fits away leads
     | inr unmet ↦
         far-by-all q e k m fits
@@ -49,22 +49,22 @@ module _ (q : Query) (gone set : List Bool) (e k : ℕ) (posed : IsQuery q)
   ]
 
   any-fails : (choices : List Distribution) (c : ℕ) → c < length choices
-      → list_any (serves (gone_barred gone) set) choices ≡ false
-      → serves (gone_barred gone) set (get_or choices c no_distribution) ≡ false
-  any-fails choices c l fails = AllByRecursion-at (λ m. serves (gone_barred gone) set m ≡ false) choices c
-      no_distribution l (any-none (serves (gone_barred gone) set) choices fails)
+      → list_any (serves (gone_excluded gone) set) choices ≡ false
+      → serves (gone_excluded gone) set (get_or choices c no_distribution) ≡ false
+  any-fails choices c l fails = AllByRecursion-at (λ m. serves (gone_excluded gone) set m ≡ false) choices c
+      no_distribution l (any-none (serves (gone_excluded gone) set) choices fails)
 
   -- so a state that the set does not attract is kept away by its choices
-  pub side-left : (s : ℕ) → s < states q → is_attracted q (gone_barred gone) set s ≡ false → SideIsFar q e k s
+  pub side-left : (s : ℕ) → s < states q → is_attracted q (gone_excluded gone) set s ≡ false → SideIsFar q e k s
   side-left s inside fails = record {
     greatest = λ is_side c l. choice-left (choice_of q.game s c) (IsChoiceOf-choice_of q.game s c posed.game inside l)
         (any-fails (choices_of q.game s) c l
-        (sym (ap (λ side. attracts side (gone_barred gone) set (choices_of q.game s)) is_side) ∙ fails));
+        (sym (ap (λ side. attracts side (gone_excluded gone) set (choices_of q.game s)) is_side) ∙ fails));
     least = λ is_side.
         let one : (c : ℕ) × (c < length (choices_of q.game s))
-        × (serves (gone_barred gone) set (choice_of q.game s c) ≡ false) =
-        all-place (serves (gone_barred gone) set) (choices_of q.game s) no_distribution
-        (sym (ap (λ side. attracts side (gone_barred gone) set (choices_of q.game s)) is_side) ∙ fails) in (
+        × (serves (gone_excluded gone) set (choice_of q.game s c) ≡ false) =
+        all-place (serves (gone_excluded gone) set) (choices_of q.game s) no_distribution
+        (sym (ap (λ side. attracts side (gone_excluded gone) set (choices_of q.game s)) is_side) ∙ fails) in (
           one.0,
           one.1,
           choice-left (choice_of q.game s one.0) (IsChoiceOf-choice_of q.game s one.0 posed.game inside one.1) one.2,

@@ -19,7 +19,7 @@ use Rattle.game_model.proofs.Choices.{IsChoiceOf, AreChoicesOf, AreChoicesOf-cho
 use Rattle.game_model.proofs.Best.{optimum-most, optimum-below, optimum-each, weighted_sum-most}
 use Rattle.game_model.proofs.Rises.{numerator_of-rises}
 use Rattle.game_laws.proofs.Positive.{optimum-positive, marked-at-least, scaled-pos}
-use Rattle.attractors.specs.Attractor.{meets, attracts, is_attracted, dead_barred, Grew, from_goals, with_state}
+use Rattle.attractors.specs.Attractor.{meets, attracts, is_attracted, dead_excluded, Grew, from_goals, with_state}
 use Rattle.attractors.specs.Attractor.{IsAttractor}
 use Rattle.attractors.proofs.Tests.{any-place, any-none, all-each, all-place}
 use Rattle.attractors.proofs.Searching.{Grew-goals}
@@ -44,7 +44,7 @@ choice-positive q set k m positive fits reached h =
 side-positive : (q : Query) (s k : ℕ) (set : List Bool) (side : Side) → side_at q s ≡ side
     → AreChoicesOf q.game (choices_of q.game) → 0 < denominator q.game → s < states q
     → ((t : ℕ) → t < states q → slice_index_or set t false ≡ true → 1 ≤ numerator q k t)
-    → attracts side (dead_barred q) set (choices_of q.game s) ≡ true → 1 ≤ optimum (side_at q s)
+    → attracts side (dead_excluded q) set (choices_of q.game s) ≡ true → 1 ≤ optimum (side_at q s)
     (λ m. denominator q.game / m.total * weighted_sum (numerator q k) m.edges) (choices_of q.game s)
 side-positive q s k set Max is_side chosen positive inside reached h =
     let f : Distribution → ℕ = λ m. denominator q.game / m.total * weighted_sum (numerator q k) m.edges in
@@ -67,7 +67,7 @@ side-positive q s k set Min is_side chosen positive inside reached h =
 -- a state that is attracted has a positive value one step later
 attracted-positive : (q : Query) (set : List Bool) (k s : ℕ) → IsQuery q → s < states q
     → ((t : ℕ) → t < states q → slice_index_or set t false ≡ true → 1 ≤ numerator q k t) → is_dead q s ≡ false
-    → is_attracted q (dead_barred q) set s ≡ true → 1 ≤ numerator q (suc k) s
+    → is_attracted q (dead_excluded q) set s ≡ true → 1 ≤ numerator q (suc k) s
 unfolding numerator_of
 attracted-positive q set k s posed inside reached alive drawn =
     marked-at-least (is_goal q s) (is_dead q s) (denominator q.game ^ suc k) (optimum (side_at q s)
@@ -84,7 +84,7 @@ later-positive q k s posed h =
 
 -- a set stays reached when a state joins that it attracts
 IsReached-add : (q : Query) (set : List Bool) (i : ℕ) → IsQuery q → i < states q → IsReached q set → is_dead q i ≡ false
-    → is_attracted q (dead_barred q) set i ≡ true → IsReached q (slice_set set i true)
+    → is_attracted q (dead_excluded q) set i ≡ true → IsReached q (slice_set set i true)
 IsReached-add q set i posed here reached alive drawn = record {
   horizon = suc reached.horizon;
   positive = λ s inside member. elim (cases_eq s i) [
@@ -100,7 +100,7 @@ goal-positive true h = omega arith
 goal-positive false h = absurd (cc)
 
 -- so a set that grew is reached
-IsReached-grown : (q : Query) (set : List Bool) → IsQuery q → Grew q (dead_barred q) set → IsReached q set
+IsReached-grown : (q : Query) (set : List Bool) → IsQuery q → Grew q (dead_excluded q) set → IsReached q set
 unfolding numerator_of
 IsReached-grown q _ posed (from_goals set goals) = record {
   horizon = 0;
@@ -134,7 +134,7 @@ choice-none q set k m fits none h =
 -- the optimum of a side that is not attracted is 0
 side-none : (q : Query) (s k : ℕ) (set : List Bool) (side : Side) → AreChoicesOf q.game (choices_of q.game)
     → ((t : ℕ) → t < states q → slice_index_or set t false ≡ false → numerator q k t ≡ 0)
-    → attracts side (dead_barred q) set (choices_of q.game s) ≡ false
+    → attracts side (dead_excluded q) set (choices_of q.game s) ≡ false
     → optimum side (λ m. denominator q.game / m.total * weighted_sum (numerator q k) m.edges) (choices_of q.game s) ≡ 0
 side-none q s k set Max chosen none h =
     let f : Distribution → ℕ = λ m. denominator q.game / m.total * weighted_sum (numerator q k) m.edges in
@@ -164,7 +164,7 @@ step-none false false top x h k = k refl
 -- outside a set that has the goals and attracts no more every k-step value is 0
 closed-none : (q : Query) (set : List Bool) → AreChoicesOf q.game (choices_of q.game)
     → ((s : ℕ) → s < states q → slice_index_or set s false ≡ false → is_goal q s ≡ false) → ((s : ℕ) → s < states q
-    → slice_index_or set s false ≡ false → is_dead q s ≡ false → is_attracted q (dead_barred q) set s ≡ false)
+    → slice_index_or set s false ≡ false → is_dead q s ≡ false → is_attracted q (dead_excluded q) set s ≡ false)
     → (k s : ℕ) → s < states q → slice_index_or set s false ≡ false → numerator q k s ≡ 0
 unfolding numerator_of
 closed-none q set chosen others closed zero s inside out = opening-none (is_goal q s) (others s inside out)
@@ -186,13 +186,13 @@ not-false true h = refl
 not-false false h = absurd (cc)
 
 -- the complement of the attractor is the zero set
-pub IsZeroSet-complement : (q : Query) (set : List Bool) → IsQuery q → IsAttractor q (dead_barred q) set
+pub IsZeroSet-complement : (q : Query) (set : List Bool) → IsQuery q → IsAttractor q (dead_excluded q) set
     → IsZeroSet q (map not set)
 IsZeroSet-complement q set posed attractor =
     let reached : IsReached q set = IsReached-grown q set posed attractor.grew in
     let others : (s : ℕ) → s < states q → slice_index_or set s false ≡ false → is_goal q s ≡ false =
     λ s inside out. not-goal (is_goal q s) (slice_index_or set s false)
-    (Grew-goals q (dead_barred q) set attractor.grew s inside) out in
+    (Grew-goals q (dead_excluded q) set attractor.grew s inside) out in
     let at : (s : ℕ) → s < states q → slice_index_or (map not set) s false ≡ not (slice_index_or set s false) =
     λ s inside. get_or-map not set s false false (omega (arith, attractor.many)) in
     record {

@@ -11,7 +11,7 @@ ghost use Rattle.std.specs.Prelude.{IfOk};
 ghost use Rattle.game_model.specs.Dual.{IsZeroSet};
 ghost use Rattle.predecessors.specs.Lists.{ArePredecessors};
 
-use attractors::{BarsDead, attractor_of, complement};
+use attractors::{ExcludedDead, attractor_of, complement};
 use game_model::{Marks, Question};
 use game_outside::OutOfMemory;
 use predecessors::Predecessors;
@@ -36,6 +36,6 @@ pub fn zero_set_over(
     ensures { IfOk result (λ marks. IsZeroSet question.now marks) }
 {
     question.known();
-    let reached = attractor_of(alloc, question, predecessors, &BarsDead {})?;
+    let reached = attractor_of(alloc, question, predecessors, &ExcludedDead {})?;
     Ok(Marks::of_list(complement(alloc, &reached)?))
 }

@@ -7,7 +7,7 @@ use Rattle.attractors.proofs.attractor.attractor_of.Given as goal
 abbrev pub invariant-loop-place : goal.invariant-loop-place
 invariant-loop-place g l = record {
   within : l.place ≤ length l.search.order.items;
-  grown : IsAttractorSearch l.question (g.S.Bars.barred l.bars l.question)
+  grown : IsAttractorSearch l.question (g.S.Excluded.excluded l.excluded l.question)
       (moves_into l.predecessors (take l.place l.search.order.items)) l.search.members.items l.search.next_choice.items
       l.search.order.items;
 }

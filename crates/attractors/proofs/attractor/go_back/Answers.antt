@@ -22,7 +22,7 @@ loop-step-preserved g c = record {
   grown =
       let before : List Move = moves_into c.args.predecessors.now (take c.args.place c.args.search.now.order.items) in
       subst (λ (followed : List Move).
-      IsAttractorSearch c.args.question.now (g.S.Bars.barred c.args.bars.now c.args.question.now) followed
+      IsAttractorSearch c.args.question.now (g.S.Excluded.excluded c.args.excluded.now c.args.question.now) followed
       c.follow.new.self.members.items c.follow.new.self.next_choice.items c.follow.new.self.order.items)
       (take-one before c.of_state-step-items.result.now c.loop-step.step-index _ c.loop-step-test.true)
       (c.in_ok-follow.ensures.grows (before ++ take c.loop-step.step-index c.of_state-step-items.result.now)

@@ -7,7 +7,7 @@ use Rattle.attractors.proofs.attractor.go_back.Given as goal
 abbrev pub invariant-loop-step : goal.invariant-loop-step
 invariant-loop-step g l = record {
   longer : IsLonger l.fn.search.order.items l.search.order.items;
-  grown : IsAttractorSearch l.question (g.S.Bars.barred l.bars l.question)
+  grown : IsAttractorSearch l.question (g.S.Excluded.excluded l.excluded l.question)
       (moves_into l.predecessors (take l.place l.fn.search.order.items) ++ take l.step-index l.step-items)
       l.search.members.items l.search.next_choice.items l.search.order.items;
 }

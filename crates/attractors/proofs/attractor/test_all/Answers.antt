@@ -9,7 +9,7 @@ loop-state-preserved g c =
       longer = longer-more _ _ _ c.loop-state.invariant.longer c.in_ok-test.ensures.longer;
       larger = λ s member. c.in_ok-test.ensures.larger s (c.loop-state.invariant.larger s member);
       grown = c.in_ok-test.ensures.grows;
-      tested = AreTested-more q (g.S.Bars.barred c.args.bars.now q) c.args.search.now.members.items
+      tested = AreTested-more q (g.S.Excluded.excluded c.args.excluded.now q) c.args.search.now.members.items
           c.loop-state.search.members.items c.test.new.self.members.items c.loop-state.search.next_choice.items
           c.test.new.self.next_choice.items c.loop-state.state
           c.loop-state.invariant.larger c.in_ok-test.ensures.larger c.loop-state.invariant.tested
