@@ -8,7 +8,7 @@ from typing import Optional
 from gallery.families import agrees
 from gallery.solved import Solved, faults_of_bounds
 from gallery.table import shown
-from toolbox.exact import Problem, exact_values
+from toolbox.exact import Problem, determinacy
 from toolbox.model import Question
 from toolbox.programs import UNIT, asked, bracket_of, failures, verdict_of
 
@@ -89,7 +89,7 @@ def independent_values(model, question, computed):
         return [1 - value for value in independent_values(model, question.dual(), computed)]
     key = (question.path, question.steps, question.left, question.right, tuple(Problem(model, question).maximises))
     if key not in computed:
-        computed[key] = exact_values(model, question)
+        computed[key] = determinacy(model, question)
     return computed[key]
 
 

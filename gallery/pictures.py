@@ -26,7 +26,7 @@ from gallery.answer import answers
 from gallery.families import chain, coin, stall
 from gallery.picture import Picture, linear, logarithmic, spelt_power
 from toolbox.endings import UNREAD, Refusal, Words, ended
-from toolbox.exact import exact_values, plain_value_iteration
+from toolbox.exact import determinacy, plain_value_iteration
 from toolbox.model import ask
 
 FOLDER = Path(__file__).resolve().parent / "pictures"
@@ -89,7 +89,7 @@ def quarters():
 
 def draw_coin():
     model, question = coin.model(2, 8), ask("Pmin=?", "heads")
-    exact = exact_values(model, question)[0]
+    exact = determinacy(model, question)[0]
     title = f"The shared coin, 2 processes, K = 8; the value is {exact}"
     picture = Picture(title, logarithmic(WORK, 5, 8), logarithmic("width or distance, a probability", -15, 0, 3))
     widths = [(work, max(upper - lower, LEAST_WIDTH)) for work, lower, upper in bounds(model, question, 5)]

@@ -20,7 +20,7 @@ from gallery.solved import Solved, faults_of_line, is_taken, solved
 from gallery.solved import spelt as spelt_width
 from gallery.table import contents, joined, read_lines, write_lines, write_markdown
 from toolbox.drawn import drawn_game, drawn_question, drawn_values, fault_of, stays_open
-from toolbox.exact import exact_values, plain_value_iteration
+from toolbox.exact import determinacy, plain_value_iteration
 from toolbox.model import CLOSED, HALF, Model, ask, spelt, sure
 from toolbox.programs import bracket_of
 from toolbox.testing import InFolder
@@ -68,25 +68,25 @@ class Files(unittest.TestCase):
 
 class Values(unittest.TestCase):
     def test_coin_loop(self):
-        self.assertEqual(exact_values(coin_loop(), ask("Pmax=?", "goal")), [HALF, 1, 0])
+        self.assertEqual(determinacy(coin_loop(), ask("Pmax=?", "goal")), [HALF, 1, 0])
         self.assertAlmostEqual(plain_value_iteration(coin_loop(), ask("Pmax=?", "goal"), 1e-9)[-1], 0.5)
 
     def test_coin_loop_within_steps(self):
         for steps, value in enumerate((0, Fraction(1, 4), Fraction(3, 8), Fraction(7, 16))):
-            self.assertEqual(exact_values(coin_loop(), ask("Pmin=?", "goal", steps=steps)), [value, 1, 0])
+            self.assertEqual(determinacy(coin_loop(), ask("Pmin=?", "goal", steps=steps)), [value, 1, 0])
 
     def test_the_next_step_and_always(self):
-        self.assertEqual(exact_values(coin_loop(), ask("Pmax=?", "!goal", path="X")), [Fraction(3, 4), 0, 1])
-        self.assertEqual(exact_values(coin_loop(), ask("Pmax=?", "!goal", path="G")), [HALF, 0, 1])
+        self.assertEqual(determinacy(coin_loop(), ask("Pmax=?", "!goal", path="X")), [Fraction(3, 4), 0, 1])
+        self.assertEqual(determinacy(coin_loop(), ask("Pmax=?", "!goal", path="G")), [HALF, 0, 1])
 
     def test_formulas_inside(self):
         likely, certain = ask("P>=0.5", "goal"), ask("P>=1", "goal")
-        self.assertEqual(exact_values(coin_loop(), ask("P>=1", likely)), [1, 1, 0])
-        self.assertEqual(exact_values(coin_loop(), ask("Pmax=?", certain)), [HALF, 1, 0])
+        self.assertEqual(determinacy(coin_loop(), ask("P>=1", likely)), [1, 1, 0])
+        self.assertEqual(determinacy(coin_loop(), ask("Pmax=?", certain)), [HALF, 1, 0])
         never = ask("Pmax=?", ("!", certain), path="G")
-        self.assertEqual(exact_values(coin_loop(), never), [HALF, 0, 1])
+        self.assertEqual(determinacy(coin_loop(), never), [HALF, 0, 1])
         known = ask("Pmax=?", "goal", safe=ask("P>0.5", "goal", coalition=("p0",)))
-        self.assertEqual(exact_values(coin_loop(), known), [0, 1, 0])
+        self.assertEqual(determinacy(coin_loop(), known), [0, 1, 0])
 
     def test_the_chain_stops_as_told(self):
         for length, rounds in chain.STOPS.items():
@@ -100,7 +100,7 @@ class Values(unittest.TestCase):
             given = [question for question in module.questions(*sizes) if is_given(question)]
             for question in given if len(model) <= MOST_STATES else []:
                 with self.subTest(model=name, question=question.title()):
-                    self.assertEqual(exact_values(model, question)[0], question.value)
+                    self.assertEqual(determinacy(model, question)[0], question.value)
 
 
 class KnownModels(unittest.TestCase):
@@ -153,7 +153,7 @@ class KnownModels(unittest.TestCase):
 
 class Games(unittest.TestCase):
     def value(self, model, goal, *coalition):
-        return exact_values(model, ask("Pmax=?", goal, coalition=coalition))[0]
+        return determinacy(model, ask("Pmax=?", goal, coalition=coalition))[0]
 
     def test_a_village_of_one_block(self):
         """Two roads to the house, each with a jam at worst: 0.1 * 0.01."""

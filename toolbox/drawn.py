@@ -3,7 +3,7 @@
 import re
 from fractions import Fraction
 
-from toolbox.exact import exact_values
+from toolbox.exact import determinacy
 from toolbox.model import Model, ask
 
 PLAYERS = ("a", "b")
@@ -72,8 +72,8 @@ def any_question(draw, model):
     said = {"safe": safe, "coalition": draw.choice(COALITIONS), "path": "G" if path == "G" else "F"}
     if bound.endswith("?"):
         question = ask(bound, goal, **said)
-        return question, exact_values(model, question)
-    values = exact_values(model, ask(f"{bound}0", goal, **said))
+        return question, determinacy(model, question)
+    values = determinacy(model, ask(f"{bound}0", goal, **said))
     return ask(bound + str(draw.choice(values).limit_denominator(10**9)), goal, **said), values
 
 

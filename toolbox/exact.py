@@ -64,7 +64,7 @@ def states_of(model, tree):
 
 @lru_cache(maxsize=4)
 def states_of_truth(model, question):
-    values = exact_values(model, question)
+    values = determinacy(model, question)
     return frozenset(state for state, value in enumerate(values) if question.is_true_of(value))
 
 
@@ -72,10 +72,10 @@ def weighted_sum(choice, values):
     return sum(part * values[successor] for successor, part in choice)
 
 
-def exact_values(model, question):
+def determinacy(model, question):
     """The value of each state of the model."""
     if question.path == "G":
-        return [1 - value for value in exact_values(model, question.dual())]
+        return [1 - value for value in determinacy(model, question.dual())]
     problem = Problem(model, question)
     if question.path == "X":
         return stepped(problem, problem.choices, goals_alone(problem), range(len(problem)))

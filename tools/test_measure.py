@@ -5,7 +5,7 @@ import unittest
 from unittest import mock
 
 from gallery.families import die, wind
-from toolbox.exact import exact_values
+from toolbox.exact import determinacy
 from toolbox.model import ask
 from toolbox.testing import InFolder, load, needs_program, program, run_tool
 
@@ -106,7 +106,7 @@ class Shares(InFolder):
             (wind, (4, 1), ask("Pmax=?", "goal", coalition=("robot",))),
         ):
             model = module.model(*sizes)
-            between = sum(0 < value < 1 for value in exact_values(model, question))
+            between = sum(0 < value < 1 for value in determinacy(model, question))
             name = "-".join([module.__name__.rpartition(".")[2], *map(str, sizes)])
             files = measure.Files(measure.Entry("", name, question.formula()), self.folder)
             share = f"{between / len(model):.3f}"

@@ -10,7 +10,7 @@ from fractions import Fraction
 from pathlib import Path
 
 from toolbox import explicit
-from toolbox.exact import exact_values
+from toolbox.exact import determinacy
 from toolbox.strategies import read_choice_names, read_strategy
 from toolbox.testing import CERTIFICATE, FORMULA, GAME, SAMPLES, TOOLS, InFolder, call_tool, certified_models
 from toolbox.testing import needs_program, program, run, run_tool
@@ -384,7 +384,7 @@ class OfTheGallery(InFolder):
 
     def exactly_within(self, one, names):
         """The exact values of the induced model of these files lie between the bounds at every state."""
-        values = exact_values(read_files(*(Path(name).read_text() for name in names)).plain(), one.question)
+        values = determinacy(read_files(*(Path(name).read_text() for name in names)).plain(), one.question)
         for state, value in enumerate(values):
             lower, upper = (Fraction(one.entries[state][place]) for place in (1, 4))
             self.assertTrue(lower <= value <= upper, (state, value))

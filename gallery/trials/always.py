@@ -4,7 +4,7 @@ from answers import checked
 from core import Found, drawn_formula, drawn_game, faults_of_report, run, words_of, written
 from gallery.solved import faults_of_plan
 from solver import compared
-from toolbox.exact import exact_values
+from toolbox.exact import determinacy
 
 COUNT = 100
 ROUNDS = (0, 1, 2, 3, 8, 60)
@@ -18,7 +18,7 @@ def trial(draw, room):
     words = words_of("check", text, "--rounds", rounds, "--workers", 1, "--plan")
     status, output = checked(files, text, rounds, True)
     found.compare(words, (status, output, ""), run(room, *words))
-    values = exact_values(model, formula)
+    values = determinacy(model, formula)
     report = "".join(line for line in output.splitlines(True) if line.startswith("state "))
     found.note(words, faults_of_report(report, formula, values))
     (room / "certificate").write_text(output, encoding="ascii")

@@ -11,7 +11,7 @@ from audits import audited, reaudit
 from core import ENDLESS, Found, drawn_formula, drawn_game, run, words_of, written
 from rounds import decimal
 from texts import Refusal
-from toolbox.exact import exact_values
+from toolbox.exact import determinacy
 from whole import UNIT
 
 COUNT, CHANGES = 60, 6
@@ -30,7 +30,7 @@ def trial(draw, room):
         right = checked(files, formula.formula(), draw.choice((0, 1, 3, 20)), True)[1]
     head, *entries = right[right.index("certificate ") :].splitlines()
     asked = formula.dual() if formula.path == "G" else formula
-    values = exact_values(model, asked)
+    values = determinacy(model, asked)
     for number in range(CHANGES):
         lines = [line.split() for line in entries]
         for _ in range(min(number, draw.choice((1, 1, 2)))):
@@ -71,8 +71,8 @@ def wrong_claims(model, formula, maximises, told, values):
     The value lies between what the choices reach against every strategy and what the replies allow to every strategy.
     """
     lower, choices, _, upper, replies = zip(*told)
-    reached = exact_values(played(model, maximises, True, choices), formula)
-    kept = exact_values(played(model, maximises, False, replies), formula)
+    reached = determinacy(played(model, maximises, True, choices), formula)
+    kept = determinacy(played(model, maximises, False, replies), formula)
     ladders = zip(lower, *([UNIT * value for value in table] for table in (reached, values, kept)), upper)
     wrong = [state for state, ladder in enumerate(ladders) if list(ladder) != sorted(ladder)]
     return [f"what is said of state {state} is wrong" for state in wrong]

@@ -9,7 +9,7 @@ from fractions import Fraction
 from core import Found, looped_formula, looped_game
 from gallery.solved import faults_of_plan
 from solver import judged
-from toolbox.exact import exact_values
+from toolbox.exact import determinacy
 from toolbox.programs import UNIT, bracket_of
 
 COUNT, MUCH = 60, 1_000
@@ -19,10 +19,10 @@ SHIFTS = tuple(map(Fraction, ("0", "1e-15", "1e-9", "1e-3", "0.1", "-1e-12", "-0
 def trial(draw, room):
     """One game with one question, without a file and with two."""
     model, formula = looped_game(draw, 5, 8), looped_formula(draw)
-    found, values = Found(), exact_values(model, formula)
+    found, values = Found(), determinacy(model, formula)
     model.write(room / "m")
     plain = judged(found, room, model, formula, values)
-    asked = exact_values(model, formula.dual()) if formula.path == "G" else values
+    asked = determinacy(model, formula.dual()) if formula.path == "G" else values
     for _ in range(2):
         (room / "values").write_text(drawn_hints(draw, asked), encoding="ascii")
         options = ("--values", room / "values")

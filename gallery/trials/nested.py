@@ -6,7 +6,7 @@ is asked by itself, too: as many pairs are undecided as these runs leave open.
 
 from answers import checked
 from core import ALL_PATHS, Found, drawn_formula, drawn_game, faults_of_report, run, words_of, written
-from toolbox.exact import exact_values
+from toolbox.exact import determinacy
 
 COUNT = 100
 DEPTH, MANY = 3, 100
@@ -36,7 +36,7 @@ def asked(found, room, files, model, formula, command, rounds):
         found.compare(words, (*checked(files, formula.formula(), rounds), ""), ran)
     else:
         found.note(words, faults_of_solved(ran, formula))
-    found.note(words, faults_of_report(ran[1], formula, exact_values(model, formula)))
+    found.note(words, faults_of_report(ran[1], formula, determinacy(model, formula)))
     first = ran[1].split("\n")[0].split()
     return ran[1].count(" Undecided\n"), int(first[3]) if first[:1] == ["inner"] else 0
 

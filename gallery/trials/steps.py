@@ -4,7 +4,7 @@ from fractions import Fraction
 
 from answers import checked
 from core import STEPPED, Found, drawn_formula, drawn_game, faults_of_report, run, words_of, written
-from toolbox.exact import exact_values
+from toolbox.exact import determinacy
 from toolbox.programs import UNIT, bracket_of
 
 COUNT = 150
@@ -16,7 +16,7 @@ def trial(draw, room):
     model = drawn_game(draw)
     found, files, formula = Found(), written(room, model), drawn_formula(draw, STEPPED)
     status, output = checked(files, formula.formula())
-    values = exact_values(model, formula)
+    values = determinacy(model, formula)
     found.note([formula.formula()], faults_of_report(output, formula, values) + far_ones(output, formula, values))
     asks = [words_of("check", formula.formula(), "--workers", workers) for workers in draw.sample(WORKERS, 2)]
     for words in [*asks, words_of("solve", formula.formula())]:

@@ -3,7 +3,7 @@
 from answers import initial_of
 from core import Found, drawn_formula, drawn_game, run, words_of, written
 from texts import Refusal, read_formula
-from toolbox.exact import exact_values
+from toolbox.exact import determinacy
 
 COUNT = 200
 PATHS = (*("F", "U") * 6, "G", "X", "F<=")
@@ -30,7 +30,7 @@ def listed(files, text):
     initial = initial_of(files, formula)
     if formula.inside() or formula.horizon() is not None or formula.path == "G":
         raise Refusal("question", 0, "WrongKind")
-    values = exact_values(files.plain(), formula)
+    values = determinacy(files.plain(), formula)
     sure = [state for state, value in enumerate(values) if value == 1]
     lines = [f"sure {len(sure)} of {len(files.game)}", *sure]
     return 0 if set(initial) <= set(sure) else 1, "".join(f"{line}\n" for line in lines)

@@ -8,9 +8,9 @@ use Rattle.game_model.specs.Values.{denominator, numerator}
 use Rattle.game_model.specs.Bounds.{Exceeds}
 use Rattle.game_model.proofs.Choices.{denominator-pos}
 use Rattle.strategies.specs.Strategies.{reach, by_plan}
-use Rattle.exact_values.specs.Exact.{HasValues}
-use Rattle.exact_values.proofs.Holding.{questions-have_values}
-use Rattle.exact_values.proofs.Bracketing.{reached-to, exceeded-from}
+use Rattle.determinacy.specs.Exact.{HasValues}
+use Rattle.determinacy.proofs.Holding.{questions-have_values}
+use Rattle.determinacy.proofs.Bracketing.{reached-to, exceeded-from}
 use Rattle.almost_sure.specs.Values.{IsAlmostSure, IsAway, AreAlmostSure}
 use Rattle.almost_sure.specs.Strategies.{HaveStrategies}
 

@@ -14,7 +14,7 @@ use Rattle.formula_sets.specs.Posing.{Model, at_states, next_question_of}
 use Rattle.formula_sets.proofs.Asking.{at_states-at, length-at_states}
 use Rattle.bounded_rounds.specs.Steps.{IsSweep, down_from, up_from}
 use Rattle.verdicts.specs.declared.report.How.TheVariants.{Steps}
-use Rattle.exact_values.proofs.Zeros.{questions-have_zero_sets}
+use Rattle.determinacy.proofs.Zeros.{questions-have_zero_sets}
 use Rattle.formula_truth.specs.Truth.{states, everywhere}
 use Rattle.formula_truth.specs.Bands.{Band, Bands, Known, known, exactly, negated}
 use Rattle.formula_truth.specs.Runs.{AreSwept, pessimistic, optimistic, units_at, mirrored}

@@ -20,8 +20,8 @@ use Rattle.verdicts.specs.Truth.{IsTrueOf}
 use Rattle.formula_truth.specs.Truth.{Valuation, IsTruth, IsTrueBy, states, holds, everywhere, question_by}
 use Rattle.formula_truth.specs.Truth.{dual_question_by}
 use Rattle.formula_truth.proofs.Posed.{is_query}
-use Rattle.exact_values.proofs.Decided.{Decided, dec-not, dec-lt, dec-le}
-use Rattle.exact_values.proofs.Deciding.{reaches-decided, exceeds-decided}
+use Rattle.determinacy.proofs.Decided.{Decided, dec-not, dec-lt, dec-le}
+use Rattle.determinacy.proofs.Deciding.{reaches-decided, exceeds-decided}
 
 dec-of : (q : Query) (bound : Bound) (s : ℕ) → IsQuery q → s < query.states q → Decided (IsTrueOf q bound s)
 dec-of q (AtLeast p) s posed inside = reaches-decided q p.num p.den s posed inside

@@ -6,9 +6,9 @@ use Rattle.game_model.specs.Limits.{unit}
 use Rattle.game_model.specs.Query.{Query, IsQuery, states}
 use Rattle.strategies.proofs.Avoiding.{avoids-factors, rest-factors, holds-avoids, reaches-avoided}
 use Rattle.strategies.proofs.Plans.{against-near}
-use Rattle.exact_values.specs.Exact.{HasValues}
-use Rattle.exact_values.proofs.Bracketing.{below, above}
-use Rattle.exact_values.proofs.Holding.{questions-have_values}
+use Rattle.determinacy.specs.Exact.{HasValues}
+use Rattle.determinacy.proofs.Bracketing.{below, above}
+use Rattle.determinacy.proofs.Holding.{questions-have_values}
 use Rattle.formula_reader.specs.Formula.{Tree}
 use Rattle.plan_text.specs.declared.plan.Plan.{Plan}
 use Rattle.certificate_audit.specs.Accepted.{IsSoundPlan}

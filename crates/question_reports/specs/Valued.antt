@@ -3,7 +3,7 @@ use Rattle.std.specs.Prelude.{◌≡◌, ℕ, ◌-◌, ◌*◌, ◌<◌, ◌≤�
 use Rattle.game_model.specs.Limits.{unit}
 use Rattle.game_model.specs.Query.{Query, states}
 use Rattle.strategies.specs.Strategies.{AvoidsAgainstAll, IsAvoidedAgainstAll}
-use Rattle.exact_values.specs.Exact.{HasValues}
+use Rattle.determinacy.specs.Exact.{HasValues}
 use Rattle.formula_reader.specs.Formula.{Tree}
 use Rattle.plan_text.specs.declared.plan.Plan.{Plan}
 use Rattle.certificate_audit.specs.Accepted.{IsSoundPlan}
