@@ -9,20 +9,20 @@ use Rattle.command_words.specs.Words.{Asked, Check, Audit, Solve, Command, OfChe
 use Rattle.command_words.specs.Words.{AreCommand}
 use Rattle.output.specs.declared.refusal.Refusal.{Refusal}
 use Rattle.output.specs.declared.refusal.Refusal.TheVariants.{TooLong}
-use Rattle.asked_files.specs.declared.load.End.{End}
-use Rattle.asked_files.specs.declared.load.End.TheVariants.{OutOfMemory, ReadFault, Refused}
-use Rattle.asked_files.specs.declared.problem.Paths.{Paths}
-use Rattle.asked_files.specs.declared.problem.Paths.TheVariants.{Unbounded, Reaching}
+use Rattle.inputs.specs.declared.load.End.{End}
+use Rattle.inputs.specs.declared.load.End.TheVariants.{OutOfMemory, ReadFault, Refused}
+use Rattle.inputs.specs.declared.problem.Paths.{Paths}
+use Rattle.inputs.specs.declared.problem.Paths.TheVariants.{Unbounded, Reaching}
 use Rattle.formula_sets.specs.Posing.{Posing}
-use Rattle.asked_files.specs.Problems.{Problem, OfReach, OfWithin, OfNext, OfNested, initial_of, posing_in, states_of}
-use Rattle.asked_files.specs.Said.{Said, NotHeld, Refuses, and_then}
-use Rattle.asked_files.specs.Sources.{Sources, SourceWith, IfKnown, sources_of}
-use Rattle.asked_files.specs.Loading.{IsTooLong, LoadingLeaves, Loads, ReadsNothing, EndsCaused}
-use Rattle.asked_files.specs.Posed.{Reading, posed, reading_said}
-use Rattle.asked_files.specs.Asks.{Asks}
-use Rattle.asked_files.proofs.Leaving.{answer_leaves, answer_small, both_leave, end_leaves, other_end}
-use Rattle.asked_files.specs.Questions.{LacksText, LacksValues, PosesIt, Reads, ReadsAs, RefusesCertificate}
-use Rattle.asked_files.specs.Questions.{RefusesQuestion, RefusesValues}
+use Rattle.inputs.specs.Problems.{Problem, OfReach, OfWithin, OfNext, OfNested, initial_of, posing_in, states_of}
+use Rattle.inputs.specs.Said.{Said, NotHeld, Refuses, and_then}
+use Rattle.inputs.specs.Sources.{Sources, SourceWith, IfKnown, sources_of}
+use Rattle.inputs.specs.Loading.{IsTooLong, LoadingLeaves, Loads, ReadsNothing, EndsCaused}
+use Rattle.inputs.specs.Posed.{Reading, posed, reading_said}
+use Rattle.inputs.specs.Asks.{Asks}
+use Rattle.inputs.proofs.Leaving.{answer_leaves, answer_small, both_leave, end_leaves, other_end}
+use Rattle.inputs.specs.Questions.{LacksText, LacksValues, PosesIt, Reads, ReadsAs, RefusesCertificate}
+use Rattle.inputs.specs.Questions.{RefusesQuestion, RefusesValues}
 use Rattle.output.specs.declared.answer.Answer.{Answer}
 use Rattle.output.specs.Status.{IsAnswer}
 use Rattle.stogame_app.specs.Commands.{IsMissing, ReadsFiles, RefusesIt, check_paths, solve_paths}

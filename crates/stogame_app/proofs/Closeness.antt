@@ -12,7 +12,7 @@ use Rattle.formula_reader.specs.Formula.{Tree}
 use Rattle.plan_text.specs.declared.plan.Plan.{Plan}
 use Rattle.command_words.specs.Words.{Check}
 use Rattle.output.specs.declared.status.Status.{Status}
-use Rattle.question_reports.specs.Reports.{IsBracketReport}
+use Rattle.reports.specs.Reports.{IsBracketReport}
 
 higher : (x v w r p : ℕ) → x ≤ (v + r) * p → v ≤ w → x ≤ (w + r) * p
 higher x v w r p near above = omega (arith, near, mul-le-mul_right p above)

@@ -13,16 +13,16 @@ use Rattle.command_words.specs.Words.{Asked, Command, OfCheck, OfAudit, OfSolve,
 use Rattle.output.specs.declared.refusal.Text.TheVariants.{Cert, Values}
 use Rattle.output.specs.declared.refusal.Refusal.{Refusal}
 use Rattle.output.specs.declared.refusal.Refusal.TheVariants.{OfCertificate, OfValues, TooLong}
-use Rattle.asked_files.specs.declared.problem.Paths.{Paths}
-use Rattle.asked_files.specs.declared.problem.Paths.TheVariants.{Unbounded, Reaching}
+use Rattle.inputs.specs.declared.problem.Paths.{Paths}
+use Rattle.inputs.specs.declared.problem.Paths.TheVariants.{Unbounded, Reaching}
 use Rattle.formula_sets.specs.Posing.{Posing}
-use Rattle.asked_files.specs.Problems.{Problem, posing_in, states_of}
-use Rattle.asked_files.specs.Said.{NotHeld, Denoted, and_then}
-use Rattle.asked_files.specs.Sources.{Sources, sources_of, IfKnown}
-use Rattle.asked_files.specs.Posed.{posed, problem_said, reading_said}
-use Rattle.asked_files.specs.Asks.{GivenTextWith, Asks}
-use Rattle.asked_files.specs.Questions.{PosesIt, RefusesQuestion, RefusesCertificate, GivesValues, RefusesValues}
-use Rattle.asked_files.specs.Questions.{RefusesValuesText, LacksValues}
+use Rattle.inputs.specs.Problems.{Problem, posing_in, states_of}
+use Rattle.inputs.specs.Said.{NotHeld, Denoted, and_then}
+use Rattle.inputs.specs.Sources.{Sources, sources_of, IfKnown}
+use Rattle.inputs.specs.Posed.{posed, problem_said, reading_said}
+use Rattle.inputs.specs.Asks.{GivenTextWith, Asks}
+use Rattle.inputs.specs.Questions.{PosesIt, RefusesQuestion, RefusesCertificate, GivesValues, RefusesValues}
+use Rattle.inputs.specs.Questions.{RefusesValuesText, LacksValues}
 use Rattle.output.specs.declared.status.Status.{Status}
 use Rattle.output.specs.declared.status.Status.TheVariants.{Usage, ModelRefused}
 use Rattle.output.specs.declared.status.Status.TheVariants.{ReadFault, WriteFault, OutOfMemory, CertificateRefused}

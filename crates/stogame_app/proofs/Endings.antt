@@ -9,9 +9,9 @@ use Rattle.output.specs.declared.refusal.Refusal.{Refusal}
 use Rattle.output.specs.declared.refusal.Refusal.TheVariants.{OfCertificate, TooLong}
 use Rattle.output.specs.InFull.{RefusalInFull}
 use Rattle.output.specs.Refusals.{refusal_text}
-use Rattle.asked_files.specs.declared.load.End.{End}
-use Rattle.asked_files.specs.declared.load.End.TheVariants as end
-use Rattle.asked_files.specs.Loading.{Takes}
+use Rattle.inputs.specs.declared.load.End.{End}
+use Rattle.inputs.specs.declared.load.End.TheVariants as end
+use Rattle.inputs.specs.Loading.{Takes}
 use Rattle.output.specs.declared.answer.Answer.{Answer}
 use Rattle.output.specs.declared.status.Status.{Status}
 use Rattle.output.specs.declared.status.Status.TheVariants.{Fine, SomeFalse, SomeUndecided}

@@ -12,14 +12,14 @@ use Rattle.formula_tokens.specs.Limits.{longest}
 use Rattle.rpatl_syntax.specs.Spellable.{IsSpellable}
 use Rattle.formula_sets.specs.Truth.{holds}
 use Rattle.formula_sets.specs.Posing.{NextPosing, PosesNext}
-use Rattle.asked_files.specs.declared.problem.Problem.{Problem}
-use Rattle.asked_files.specs.declared.problem.Problem.TheVariants.{Reach, Within, Next, Nested}
-use Rattle.asked_files.specs.Problems.{PosesProblem}
-use Rattle.asked_files.specs.declared.model.Loaded.{Loaded}
-use Rattle.asked_files.specs.Posed.{HasSizes}
-use Rattle.asked_files.specs.SeenProblems.{IsOfLoaded, problem_of}
-use Rattle.question_reports.specs.Sweeps.{IsOpening, opens}
-use Rattle.question_reports.specs.Nested.{IsAnswerable}
+use Rattle.inputs.specs.declared.problem.Problem.{Problem}
+use Rattle.inputs.specs.declared.problem.Problem.TheVariants.{Reach, Within, Next, Nested}
+use Rattle.inputs.specs.Problems.{PosesProblem}
+use Rattle.inputs.specs.declared.model.Loaded.{Loaded}
+use Rattle.inputs.specs.Posed.{HasSizes}
+use Rattle.inputs.specs.SeenProblems.{IsOfLoaded, problem_of}
+use Rattle.reports.specs.Sweeps.{IsOpening, opens}
+use Rattle.reports.specs.Nested.{IsAnswerable}
 use Rattle.stogame_app.specs.inside.Posed.{IsReportable}
 
 -- the unit or 0, and which of them it is

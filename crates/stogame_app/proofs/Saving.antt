@@ -21,13 +21,13 @@ use Rattle.command_words.specs.Words.{Asked, Check, Audit, Command, OfCheck, OfA
 use Rattle.command_words.specs.Words.{AreCommand, DenoteCommand}
 use Rattle.output.specs.declared.status.Status.{Status}
 use Rattle.formula_truth.specs.declared.way.Way.TheVariants.{ByRounds}
-use Rattle.asked_files.specs.Asks.{Asks}
-use Rattle.asked_files.specs.declared.problem.Paths.{Paths}
-use Rattle.asked_files.specs.declared.problem.Paths.TheVariants.{Any, Unbounded}
-use Rattle.asked_files.specs.Problems.{Problem, OfReach, OfWithin, OfNext, OfNested, PosesProblem, initial_of}
-use Rattle.asked_files.specs.Problems.{posing_in}
+use Rattle.inputs.specs.Asks.{Asks}
+use Rattle.inputs.specs.declared.problem.Paths.{Paths}
+use Rattle.inputs.specs.declared.problem.Paths.TheVariants.{Any, Unbounded}
+use Rattle.inputs.specs.Problems.{Problem, OfReach, OfWithin, OfNext, OfNested, PosesProblem, initial_of}
+use Rattle.inputs.specs.Problems.{posing_in}
 use Rattle.rpatl_syntax.specs.Dual.{answered}
-use Rattle.asked_files.specs.Sources.{Sources, sources_of}
+use Rattle.inputs.specs.Sources.{Sources, sources_of}
 use Rattle.stogame_app.specs.Commands.{IsAcceptedOf, check_paths}
 use Rattle.stogame_app.specs.Reports.{Checks, IsReportOfWords, of_reach, of_within, of_next, of_nested, of_audit}
 use Rattle.stogame_app.specs.Reports.{of_solve, of_solve_within, of_solve_next, of_solve_nested, of_sure, of_make}
@@ -35,9 +35,9 @@ use Rattle.stogame_app.proofs.Complete.{AreOneCommand}
 use Rattle.output.proofs.Passing.{AreReadBack}
 use Rattle.output.proofs.PlainParts.{spellable-plain, answered-plain}
 use Rattle.output.proofs.ShortSpellings.{most_spelled, spelling-short}
-use Rattle.question_reports.specs.Reports.{IsBracketReport}
-use Rattle.question_reports.proofs.ShortReports.{report-text-short, sweep-text-short, nested-text-short}
-use Rattle.question_reports.proofs.Accepting.{AreCertificates, has-posing, report-accepted}
+use Rattle.reports.specs.Reports.{IsBracketReport}
+use Rattle.reports.proofs.ShortReports.{report-text-short, sweep-text-short, nested-text-short}
+use Rattle.reports.proofs.Accepting.{AreCertificates, has-posing, report-accepted}
 
 -- 1. There are no more initial states than a game has states.
 

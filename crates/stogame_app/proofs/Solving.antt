@@ -8,11 +8,11 @@ use Rattle.formula_sets.specs.Posing.{Posing}
 use Rattle.command_words.specs.Words.{Asked, Solve, Audit, Command, OfAudit, OfSolve}
 use Rattle.command_words.specs.Words.{AreCommand}
 use Rattle.output.specs.declared.status.Status.{Status}
-use Rattle.asked_files.specs.Asks.{Asks}
-use Rattle.asked_files.specs.declared.problem.Paths.{Paths}
-use Rattle.asked_files.specs.declared.problem.Paths.TheVariants.{Any, Unbounded}
-use Rattle.asked_files.specs.Problems.{Problem, OfReach, OfWithin, OfNext, OfNested, posing_in}
-use Rattle.asked_files.specs.Sources.{Sources, sources_of}
+use Rattle.inputs.specs.Asks.{Asks}
+use Rattle.inputs.specs.declared.problem.Paths.{Paths}
+use Rattle.inputs.specs.declared.problem.Paths.TheVariants.{Any, Unbounded}
+use Rattle.inputs.specs.Problems.{Problem, OfReach, OfWithin, OfNext, OfNested, posing_in}
+use Rattle.inputs.specs.Sources.{Sources, sources_of}
 use Rattle.formula_truth.specs.declared.way.Way.TheVariants.{BySolver}
 use Rattle.stogame_app.specs.Commands.{IsAcceptedOf, solve_paths}
 use Rattle.stogame_app.specs.Reports.{Solves, IsReportOfWords}
@@ -21,9 +21,9 @@ use Rattle.stogame_app.proofs.Complete.{AreOneCommand}
 use Rattle.output.proofs.Passing.{AreReadBack}
 use Rattle.output.proofs.PlainParts.{spellable-plain, answered-plain}
 use Rattle.output.proofs.ShortSpellings.{spelling-short}
-use Rattle.question_reports.specs.Solved.{IsSolved}
-use Rattle.question_reports.proofs.ShortReports.{nested-text-short, solved-text-short, sweep-text-short}
-use Rattle.question_reports.proofs.Accepting.{AreCertificates, solved-accepted}
+use Rattle.reports.specs.Solved.{IsSolved}
+use Rattle.reports.proofs.ShortReports.{nested-text-short, solved-text-short, sweep-text-short}
+use Rattle.reports.proofs.Accepting.{AreCertificates, solved-accepted}
 use Rattle.stogame_app.proofs.Saving.{AreFew, AreSpellable, asked-posing, initial-few, reported_by}
 
 -- words that denote a `solve` denote no other command

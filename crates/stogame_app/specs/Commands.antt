@@ -8,15 +8,15 @@ use Rattle.certificate_audit.specs.Accepted.{IsAccepted}
 use Rattle.command_words.specs.Words.{Check, Audit, Solve, Command, OfCheck, OfAudit, OfSolve, OfMake, OfSure}
 use Rattle.command_words.specs.Words.{AreInRange, IsMakeInRange}
 use Rattle.output.specs.declared.refusal.Refusal.{Refusal}
-use Rattle.asked_files.specs.declared.problem.Paths.{Paths}
-use Rattle.asked_files.specs.declared.problem.Paths.TheVariants.{Any, Unbounded, Reaching}
-use Rattle.asked_files.specs.Problems.{Problem, posing_in, states_of}
-use Rattle.asked_files.specs.Said.{NotHeld}
-use Rattle.asked_files.specs.Sources.{SourceWith, sources_of}
-use Rattle.asked_files.specs.Posed.{reading_said}
-use Rattle.asked_files.specs.Asks.{GivenTextWith, Asks}
-use Rattle.asked_files.specs.Questions.{PosesIt, RefusesQuestion, RefusesCertificate, GivesValues, RefusesValues}
-use Rattle.asked_files.specs.Questions.{LacksValues}
+use Rattle.inputs.specs.declared.problem.Paths.{Paths}
+use Rattle.inputs.specs.declared.problem.Paths.TheVariants.{Any, Unbounded, Reaching}
+use Rattle.inputs.specs.Problems.{Problem, posing_in, states_of}
+use Rattle.inputs.specs.Said.{NotHeld}
+use Rattle.inputs.specs.Sources.{SourceWith, sources_of}
+use Rattle.inputs.specs.Posed.{reading_said}
+use Rattle.inputs.specs.Asks.{GivenTextWith, Asks}
+use Rattle.inputs.specs.Questions.{PosesIt, RefusesQuestion, RefusesCertificate, GivesValues, RefusesValues}
+use Rattle.inputs.specs.Questions.{LacksValues}
 
 -- The numbers of the command are within their limits.
 abbrev pub IsInRange : Command → Type 0

@@ -8,21 +8,21 @@ use Rattle.formula_reader.specs.Rules.{DenotesFormula}
 use Rattle.formula_sets.specs.Posing.{Model, Posing, NextPosing}
 use Rattle.command_words.specs.Words.{Asked, Check, Audit, Solve, Make, Command, OfCheck, OfAudit, OfSolve, OfMake}
 use Rattle.command_words.specs.Words.{OfSure, AreCommand}
-use Rattle.asked_files.specs.declared.problem.Paths.{Paths}
-use Rattle.asked_files.specs.declared.problem.Paths.TheVariants.{Unbounded, Reaching}
-use Rattle.asked_files.specs.Problems.{Problem, OfReach, OfWithin, OfNext, OfNested, posing_in}
-use Rattle.asked_files.specs.Sources.{SourceWith}
-use Rattle.asked_files.specs.Asks.{GivenTextWith}
-use Rattle.asked_files.specs.Questions.{PosesIt, GivesValues}
+use Rattle.inputs.specs.declared.problem.Paths.{Paths}
+use Rattle.inputs.specs.declared.problem.Paths.TheVariants.{Unbounded, Reaching}
+use Rattle.inputs.specs.Problems.{Problem, OfReach, OfWithin, OfNext, OfNested, posing_in}
+use Rattle.inputs.specs.Sources.{SourceWith}
+use Rattle.inputs.specs.Asks.{GivenTextWith}
+use Rattle.inputs.specs.Questions.{PosesIt, GivesValues}
 use Rattle.output.specs.declared.status.Status.{Status}
 use Rattle.formula_truth.specs.declared.way.Way.TheVariants.{ByRounds, BySolver}
-use Rattle.question_reports.specs.Reports.{IsBracketReport}
-use Rattle.question_reports.specs.Sweeps.{IsWithinReport, IsNextReport}
-use Rattle.question_reports.specs.Nested.{IsNestedReport}
-use Rattle.question_reports.specs.Audits.{IsAudit}
-use Rattle.question_reports.specs.Solved.{IsSolved}
-use Rattle.question_reports.specs.Made.{IsMade}
-use Rattle.question_reports.specs.Sure.{IsSure}
+use Rattle.reports.specs.Reports.{IsBracketReport}
+use Rattle.reports.specs.Sweeps.{IsWithinReport, IsNextReport}
+use Rattle.reports.specs.Nested.{IsNestedReport}
+use Rattle.reports.specs.Audits.{IsAudit}
+use Rattle.reports.specs.Solved.{IsSolved}
+use Rattle.reports.specs.Made.{IsMade}
+use Rattle.reports.specs.Sure.{IsSure}
 use Rattle.stogame_app.specs.Status.{sure_status}
 use Rattle.stogame_app.specs.Commands.{check_paths, solve_paths}
 

@@ -10,9 +10,9 @@ use Rattle.output.specs.declared.refusal.Refusal.TheVariants.{TooLong}
 use Rattle.output.specs.Caused.{IsCaused}
 use Rattle.output.specs.InFull.{RefusalInFull}
 use Rattle.output.specs.Refusals.{refusal_text, usage_text}
-use Rattle.asked_files.specs.declared.load.End.{End}
-use Rattle.asked_files.specs.declared.load.End.TheVariants as end
-use Rattle.asked_files.specs.Sources.{IfKnown}
+use Rattle.inputs.specs.declared.load.End.{End}
+use Rattle.inputs.specs.declared.load.End.TheVariants as end
+use Rattle.inputs.specs.Sources.{IfKnown}
 use Rattle.output.specs.declared.answer.Answer.{Answer}
 use Rattle.output.specs.declared.status.Status.{Status}
 use Rattle.output.specs.declared.status.Status.TheVariants.{Fine, SomeFalse, SomeUndecided, Usage, ModelRefused}

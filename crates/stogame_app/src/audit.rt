@@ -3,16 +3,16 @@
 ghost use Rattle.std.specs.Prelude.{Ok};
 ghost use Rattle.rpatl_syntax.specs.Dual.{IsAtMostOne};
 ghost use Rattle.command_words.specs.Words.{OfAudit, audit_of};
-ghost use Rattle.asked_files.specs.Loading.{LoadingLeaves};
-ghost use Rattle.asked_files.specs.Posed.{HasSizes, reading_of};
-ghost use Rattle.asked_files.specs.Questions.{Reads};
+ghost use Rattle.inputs.specs.Loading.{LoadingLeaves};
+ghost use Rattle.inputs.specs.Posed.{HasSizes, reading_of};
+ghost use Rattle.inputs.specs.Questions.{Reads};
 ghost use Rattle.stogame_app.specs.inside.Answers.{IsAnswered};
 
-use asked_files::{End, Loaded, Paths, load_certificate, load_model, pose_loaded};
+use inputs::{End, Loaded, Paths, load_certificate, load_model, pose_loaded};
 use command_words::AuditWords;
 use game_outside::Shelf;
 use output::Answer;
-use question_reports::audit_report;
+use reports::audit_report;
 use std::alloc::Global;
 
 /// Answers `audit` with its report, or says why there is none.

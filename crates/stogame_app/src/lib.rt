@@ -5,7 +5,7 @@
 //! asked of the shelf and how much is taken from it (`shelf`), that a fault is answered only if its count rose
 //! (`shelf`, `write_fault`), and that the run does not give up by itself (`complete`). `specs/Run.antt` says how a run
 //! ends, `specs/Reports.antt` what is reported, and `specs/Commands.antt` what is refused, missing or accepted. The
-//! reports themselves are made in `question_reports`.
+//! reports themselves are made in `reports`.
 #![tactic(auto)]
 
 mod audit;

@@ -6,11 +6,11 @@ ghost use Rattle.command_words.specs.Words.{AreCommand, IsMakeInRange, OfMake, m
 ghost use Rattle.output.specs.Status.{IsAnswer};
 ghost use Rattle.stogame_app.specs.Reports.{IsReportOfWords};
 
-use asked_files::End;
+use inputs::End;
 use command_words::MakeWords;
 use game_outside::Gate;
 use output::Answer;
-use question_reports::drawn_report;
+use reports::drawn_report;
 use std::alloc::Global;
 use std::thread::Threads;
 

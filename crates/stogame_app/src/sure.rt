@@ -3,16 +3,16 @@
 ghost use Rattle.std.specs.Prelude.{◌≡◌};
 ghost use Rattle.rpatl_syntax.specs.Dual.{IsAtMostOne};
 ghost use Rattle.command_words.specs.Words.{OfSure, asked_of_words};
-ghost use Rattle.asked_files.specs.Posed.{HasSizes, reading_of};
+ghost use Rattle.inputs.specs.Posed.{HasSizes, reading_of};
 ghost use Rattle.stogame_app.specs.Status.{sure_status};
 ghost use Rattle.output.specs.Status.{IsAnswer};
 ghost use Rattle.stogame_app.specs.inside.Answers.{IsAnswered, IsMadeOf};
 
-use asked_files::{End, Loaded, Paths, load_model, pose_loaded};
+use inputs::{End, Loaded, Paths, load_model, pose_loaded};
 use command_words::AskedWords;
 use game_outside::Shelf;
 use output::{Answer, Status};
-use question_reports::sure_report;
+use reports::sure_report;
 use std::alloc::Global;
 
 /// Answers `sure` with its report, or says why there is none.

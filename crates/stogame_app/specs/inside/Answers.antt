@@ -4,12 +4,12 @@ use Rattle.text_lines.specs.Limits.{most_bytes}
 use Rattle.game_outside.specs.Outside.{Holding, Rose, KeepsShelf}
 use Rattle.command_words.specs.Words.{Asked, Command, AreCommand}
 use Rattle.output.specs.declared.refusal.Refusal.{Refusal}
-use Rattle.asked_files.specs.declared.load.End.{End}
-use Rattle.asked_files.specs.declared.load.End.TheVariants.{ReadFault, Refused}
-use Rattle.asked_files.specs.Loading.{ReadsNothing, EndsCaused, Takes}
-use Rattle.asked_files.specs.Posed.{Reading}
-use Rattle.asked_files.specs.Questions.{Reads}
-use Rattle.asked_files.specs.Sources.{IfKnown}
+use Rattle.inputs.specs.declared.load.End.{End}
+use Rattle.inputs.specs.declared.load.End.TheVariants.{ReadFault, Refused}
+use Rattle.inputs.specs.Loading.{ReadsNothing, EndsCaused, Takes}
+use Rattle.inputs.specs.Posed.{Reading}
+use Rattle.inputs.specs.Questions.{Reads}
+use Rattle.inputs.specs.Sources.{IfKnown}
 use Rattle.output.specs.declared.answer.Answer.{Answer}
 use Rattle.output.specs.Status.{IsAnswer}
 use Rattle.stogame_app.specs.Commands.{IsMissing, ReadsFiles, RefusesIt}

@@ -1,10 +1,10 @@
 -- This is what a report of `check` or of `solve` needs of the problem that was posed.
 use Rattle.std.specs.Prelude.{◌≡◌}
 use Rattle.formula_reader.specs.Formula.{Tree, tree_of}
-use Rattle.asked_files.specs.declared.problem.Problem.{Problem}
-use Rattle.asked_files.specs.declared.problem.Problem.TheVariants.{Reach, Within, Next, Nested}
-use Rattle.question_reports.specs.Nested.{IsAnswerable}
-use Rattle.question_reports.specs.Sweeps.{IsOpening}
+use Rattle.inputs.specs.declared.problem.Problem.{Problem}
+use Rattle.inputs.specs.declared.problem.Problem.TheVariants.{Reach, Within, Next, Nested}
+use Rattle.reports.specs.Nested.{IsAnswerable}
+use Rattle.reports.specs.Sweeps.{IsOpening}
 
 -- The problem can be reported on. With `X` the table is an opening table of one step. With formulas inside, what was
 -- loaded poses the problem and has this formula.

@@ -6,7 +6,7 @@ ghost use Rattle.formula_reader.specs.Formula.{Tree};
 ghost use Rattle.command_words.specs.Words.{Check};
 ghost use Rattle.output.specs.declared.status.Status.{Status};
 ghost use Rattle.strategies.specs.Stopping.{IsStopping, IsWithin};
-ghost use Rattle.question_reports.specs.Reports.{IsBracketReport};
+ghost use Rattle.reports.specs.Reports.{IsBracketReport};
 
 /// Suppose that from every state, however both sides play, a goal or a state of value 0 comes within n steps with a
 /// positive probability. Then after r rounds, with r at least j times n, the printed bounds are at every state at most

@@ -4,7 +4,7 @@ ghost use Rattle.std.specs.Prelude.{◌≡◌, ◌≤◌, ℕ, List, length, tru
 ghost use Rattle.text_lines.specs.Limits.{most_bytes};
 ghost use Rattle.game_outside.specs.Outside.{Holding};
 ghost use Rattle.command_words.specs.Words.{AreCommand, Check, Audit, Solve, OfCheck, OfAudit, OfSolve};
-ghost use Rattle.asked_files.specs.Sources.{sources_of};
+ghost use Rattle.inputs.specs.Sources.{sources_of};
 ghost use Rattle.output.specs.declared.status.Status.{Status};
 ghost use Rattle.stogame_app.specs.Commands.{IsAcceptedOf};
 ghost use Rattle.stogame_app.specs.Reports.{IsReportOfWords};

@@ -4,16 +4,16 @@ use Rattle.game_outside.specs.Outside.{Holding}
 use Rattle.formula_reader.specs.Formula.{tree_of}
 use Rattle.certificate_audit.specs.Accepted.{IsAccepted}
 use Rattle.command_words.specs.Words.{audit_of}
-use Rattle.asked_files.specs.declared.problem.Paths.TheVariants.{Unbounded}
-use Rattle.asked_files.specs.Asks.{GivenTextWith}
+use Rattle.inputs.specs.declared.problem.Paths.TheVariants.{Unbounded}
+use Rattle.inputs.specs.Asks.{GivenTextWith}
 use Rattle.formula_sets.specs.Seen.{posing_of}
-use Rattle.asked_files.specs.SeenProblems.{problem_of}
-use Rattle.asked_files.specs.Sources.{SourceWith}
+use Rattle.inputs.specs.SeenProblems.{problem_of}
+use Rattle.inputs.specs.Sources.{SourceWith}
 use Rattle.stogame_app.specs.Reports.{of_audit}
-use Rattle.asked_files.proofs.Leaving.{both_leave}
+use Rattle.inputs.proofs.Leaving.{both_leave}
 use Rattle.stogame_app.proofs.Answered.{answered_by, audit_asks, reached-inside, reported, uncertified}
 use Rattle.stogame_app.proofs.Answered.{unposed, wanting}
-use Rattle.question_reports.proofs.AuditedTexts.{accepted_audited}
+use Rattle.reports.proofs.AuditedTexts.{accepted_audited}
 use Rattle.stogame_app.proofs.audit.audit_loaded.Goals as goal
 
 pub returns-in_err-problem : goal.returns-in_err-problem

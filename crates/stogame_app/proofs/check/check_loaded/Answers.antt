@@ -1,6 +1,6 @@
 use Rattle.std.proofs.lemmas.Result.{err_from_is_err_and}
 use Rattle.command_words.specs.Words.{check_of}
-use Rattle.asked_files.specs.SeenProblems.{problem_of}
+use Rattle.inputs.specs.SeenProblems.{problem_of}
 use Rattle.stogame_app.specs.Commands.{check_paths}
 use Rattle.stogame_app.proofs.Answered.{check_asks, report_made, unposed, want_made}
 use Rattle.stogame_app.proofs.Posed.{reportable}

@@ -6,8 +6,8 @@ use Rattle.formula_reader.specs.Formula.{tree_of}
 use Rattle.rpatl_syntax.specs.Spellable.{HasKind}
 use Rattle.formula_sets.specs.Seen.{posing_of, next_posing_of}
 use Rattle.command_words.specs.Words.{check_of}
-use Rattle.asked_files.specs.declared.problem.Problem.{Problem}
-use Rattle.asked_files.specs.SeenProblems.{IsOfKind, problem_of}
+use Rattle.inputs.specs.declared.problem.Problem.{Problem}
+use Rattle.inputs.specs.SeenProblems.{IsOfKind, problem_of}
 use Rattle.stogame_app.specs.inside.Posed.{IsReportable}
 use Rattle.stogame_app.specs.Reports.{Checks, of_reach, of_within, of_next, of_nested}
 use Rattle.stogame_app.proofs.check.report_on.Goals as goal

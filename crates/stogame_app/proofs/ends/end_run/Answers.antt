@@ -1,7 +1,7 @@
 use Rattle.std.proofs.Common.{inl, List, ℕ, Result, subst}
 use Rattle.std.proofs.lemmas.Result.{IfOk-at_ok}
 use Rattle.game_outside.specs.Outside.{GrowsBy, GrowsByPrefix}
-use Rattle.asked_files.specs.declared.load.End.{End}
+use Rattle.inputs.specs.declared.load.End.{End}
 use Rattle.output.specs.declared.answer.Answer.{Answer}
 use Rattle.output.specs.Status.{IsAnswer}
 use Rattle.stogame_app.specs.Run.{AnswersWords}

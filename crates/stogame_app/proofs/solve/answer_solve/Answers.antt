@@ -1,6 +1,6 @@
 use Rattle.std.proofs.lemmas.Result.{err_from_is_err_and}
 use Rattle.command_words.specs.Words.{solve_of}
-use Rattle.asked_files.proofs.Leaving.{answer_small}
+use Rattle.inputs.proofs.Leaving.{answer_small}
 use Rattle.stogame_app.proofs.Answered.{solve_asks, unloaded}
 use Rattle.stogame_app.proofs.solve.answer_solve.Goals as goal
 

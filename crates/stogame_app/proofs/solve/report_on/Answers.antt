@@ -6,10 +6,10 @@ use Rattle.formula_reader.specs.Formula.{tree_of}
 use Rattle.rpatl_syntax.specs.Spellable.{HasKind}
 use Rattle.formula_sets.specs.Seen.{posing_of, next_posing_of}
 use Rattle.command_words.specs.Words.{solve_of}
-use Rattle.asked_files.specs.declared.problem.Problem.{Problem}
-use Rattle.asked_files.specs.Problems.{states_of}
-use Rattle.asked_files.specs.Questions.{GivesValues}
-use Rattle.asked_files.specs.SeenProblems.{IsOfKind, problem_of}
+use Rattle.inputs.specs.declared.problem.Problem.{Problem}
+use Rattle.inputs.specs.Problems.{states_of}
+use Rattle.inputs.specs.Questions.{GivesValues}
+use Rattle.inputs.specs.SeenProblems.{IsOfKind, problem_of}
 use Rattle.stogame_app.specs.inside.Posed.{IsReportable}
 use Rattle.stogame_app.specs.Reports.{Solves, of_solve, of_solve_within, of_solve_next, of_solve_nested}
 use Rattle.stogame_app.proofs.solve.report_on.Goals as goal

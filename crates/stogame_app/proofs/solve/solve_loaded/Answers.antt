@@ -2,11 +2,11 @@ use Rattle.std.proofs.Common.{Option, subst}
 use Rattle.std.proofs.lemmas.Result.{err_from_is_err_and}
 use Rattle.game_outside.specs.Outside.{Holding}
 use Rattle.command_words.specs.Words.{solve_of}
-use Rattle.asked_files.specs.Problems.{states_of}
-use Rattle.asked_files.specs.Questions.{GivesValues}
-use Rattle.asked_files.specs.SeenProblems.{problem_of}
+use Rattle.inputs.specs.Problems.{states_of}
+use Rattle.inputs.specs.Questions.{GivesValues}
+use Rattle.inputs.specs.SeenProblems.{problem_of}
 use Rattle.stogame_app.specs.Commands.{solve_paths}
-use Rattle.asked_files.proofs.Leaving.{both_leave}
+use Rattle.inputs.proofs.Leaving.{both_leave}
 use Rattle.stogame_app.proofs.Answered.{answered_by, reported, solve_asks, unhinted, unposed, wanting}
 use Rattle.stogame_app.proofs.Posed.{reportable}
 use Rattle.stogame_app.proofs.solve.solve_loaded.Goals as goal

@@ -1,7 +1,7 @@
 use Rattle.std.proofs.lemmas.Result.{err_from_is_err_and}
-use Rattle.asked_files.specs.declared.problem.Paths.TheVariants.{Reaching}
+use Rattle.inputs.specs.declared.problem.Paths.TheVariants.{Reaching}
 use Rattle.formula_sets.specs.Seen.{posing_of}
-use Rattle.asked_files.specs.SeenProblems.{problem_of}
+use Rattle.inputs.specs.SeenProblems.{problem_of}
 use Rattle.command_words.specs.Words.{asked_of_words}
 use Rattle.formula_reader.specs.Formula.{tree_of}
 use Rattle.stogame_app.specs.Reports.{of_sure}

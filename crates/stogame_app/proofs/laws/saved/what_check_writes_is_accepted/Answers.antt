@@ -1,6 +1,6 @@
 use Rattle.std.proofs.Common.{length}
 use Rattle.output.proofs.Passing.{AreReadBack}
-use Rattle.question_reports.proofs.Accepting.{AreCertificates}
+use Rattle.reports.proofs.Accepting.{AreCertificates}
 use Rattle.stogame_app.proofs.Saving.{AreSpellable, saved-accepted}
 use Rattle.stogame_app.proofs.laws.saved.what_check_writes_is_accepted.Goals as goal
 

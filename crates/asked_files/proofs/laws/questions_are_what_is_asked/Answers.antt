@@ -1,6 +1,0 @@
-use Rattle.asked_files.proofs.Asking.{said_asks, asks_said}
-use Rattle.asked_files.proofs.laws.questions_are_what_is_asked.Goals as goal
-
-pub returns : goal.returns
-returns c = λ paths sources asked problem.
-    (said_asks paths sources asked problem, asks_said paths sources asked problem)

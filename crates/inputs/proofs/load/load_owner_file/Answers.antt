@@ -1,0 +1,26 @@
+use Rattle.std.proofs.Common.{Err, ap, sym, ◌∙◌}
+use Rattle.std.proofs.lemmas.Result.{err_from_is_err_and}
+use Rattle.label_lines.specs.Texts.{owners_of}
+use Rattle.output.specs.declared.refusal.Text.TheVariants.{Own}
+use Rattle.output.specs.declared.refusal.Refusal.TheVariants.{OfOwn}
+use Rattle.inputs.proofs.FilesLoaded.{file_read, file_refused, file_unread}
+use Rattle.inputs.proofs.load.load_owner_file.Goals as goal
+
+pub returns-in-Ok-clause-says : goal.returns-in-Ok-clause-says
+returns-in-Ok-clause-says g c =
+    file_read Own OfOwn (λ bytes. owners_of bytes c.args.states) (g.H.Shelf.held c.args.shelf.now)
+    (g.H.Shelf.steady c.args.shelf.now) c.args.name.now _ c.in-Ok.ensures.reads
+
+pub returns-in_err-fault-in-Err-clause-says : goal.returns-in_err-fault-in-Err-clause-says
+returns-in_err-fault-in-Err-clause-says g c =
+    let p = err_from_is_err_and c.from_residual.result c.from_residual.ensures.1 in
+    rw (p.1, p.2) (file_unread Own OfOwn (λ bytes. owners_of bytes c.args.states)
+    (g.H.Shelf.held c.args.shelf.now) (g.H.Shelf.steady c.args.shelf.now) c.args.name.now c.in-Err.end _
+    (sym c.in_err-fault-in-Err.ensures) c.in-Err.ensures.reads
+    (λ is. c.read_owners_from.ensures.shelf.steadily (c.in-Err.is ∙ ap (λ e. Err e) is)))
+
+pub returns-in_ok-fault-in-Err-clause-says : goal.returns-in_ok-fault-in-Err-clause-says
+returns-in_ok-fault-in-Err-clause-says g c =
+    file_refused Own OfOwn (λ bytes. owners_of bytes c.args.states) (g.H.Shelf.held c.args.shelf.now)
+    (g.H.Shelf.steady c.args.shelf.now) c.args.name.now c.in-Err.end c.in_ok-fault-in-Err.fault
+    (sym c.in_ok-fault-in-Err.ensures) c.in-Err.ensures.reads

@@ -1,5 +1,0 @@
-use Rattle.question_reports.proofs.Rests.{mirrored-sound}
-use Rattle.question_reports.proofs.laws.mirrored_bounds_are_sound.Goals as goal
-
-pub returns : goal.returns
-returns c = mirrored-sound
