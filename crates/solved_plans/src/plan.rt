@@ -34,7 +34,7 @@ pub struct Candidates {
 /// is 0 otherwise. The upper table is the candidate's, from one unit to 1, if the whole table is inductive, and it is 1
 /// otherwise. The choices and ranks are those of `rank_certificate::rank_table`. A state that needs no choice or reply
 /// has none. The only error is that memory ran out.
-pub fn hand_out(
+pub fn certify(
     alloc: Global,
     question: &Question,
     predecessors: &Predecessors,

@@ -15,7 +15,7 @@ use game_outside::{Gate, OutOfMemory};
 use plan_solver::find_bounds;
 use plan_text::Plan;
 use predecessors::Predecessors;
-use solved_plans::hand_out;
+use solved_plans::certify;
 use std::alloc::Global;
 use std::thread::Threads;
 use zero_sets::zero_set_over;
@@ -44,7 +44,7 @@ pub fn solve_question<R: Threads + Sync, G: Gate + Sync>(
     let zero = zero_set_over(alloc, question, predecessors)?;
     let sure = almost_sure_over(alloc, question, predecessors, &zero)?;
     let candidates = find_bounds(alloc, question, predecessors, &sure, &zero, hints)?;
-    let plan = hand_out(alloc, question, predecessors, &sure, &zero, &candidates)?;
+    let plan = certify(alloc, question, predecessors, &sure, &zero, &candidates)?;
     drop(candidates);
     if are_close(&bound, starts, &plan) {
         return Ok(plan);
@@ -74,5 +74,5 @@ pub fn solve_question<R: Threads + Sync, G: Gate + Sync>(
     // worse than the first one.
     drop(plan);
     drop(found);
-    hand_out(alloc, question, predecessors, &sure, &zero, &better)
+    certify(alloc, question, predecessors, &sure, &zero, &better)
 }

@@ -5,7 +5,7 @@ use Rattle.certificate_audit.proofs.Soundness.{sound}
 use Rattle.game_model.specs.Query.{states}
 use Rattle.solved_plans.specs.Bounds.{counted, IsLowerOf, IsUpperOf}
 use Rattle.solved_plans.proofs.Bounds.{lower-exactly, lower-never, upper-unit, upper-exactly}
-use Rattle.solved_plans.proofs.plan.hand_out.Goals as goal
+use Rattle.solved_plans.proofs.plan.certify.Goals as goal
 
 pub returns-clause-plan : goal.returns-clause-plan
 returns-clause-plan c =
