@@ -5,9 +5,9 @@ ghost use Rattle.game_model.specs.Query.{states};
 ghost use Rattle.predecessors.specs.Lists.{ArePredecessors};
 ghost use Rattle.plan_solver.specs.Tables.{IsTableOrNone};
 
-use crate::approach::{Approach, NONE};
+use crate::state_order::{StateOrder, NONE};
 use crate::end_components::{find_end_components, open_components};
-use crate::frame::{Frame, is_open};
+use crate::input::{Input, is_open};
 use crate::lower::lower_component;
 use crate::replies::improve_replies;
 use crate::upper::{Start, upper_component};
@@ -47,12 +47,12 @@ pub fn find_bounds(
             upper: Vec::new(alloc),
         });
     }
-    let approach = Approach::of_question(alloc, question, predecessors)?;
-    let components = open_components(alloc, question, sure, zero, &approach.order)?;
-    let frame = Frame {
+    let state_order = StateOrder::of_question(alloc, question, predecessors)?;
+    let components = open_components(alloc, question, sure, zero, &state_order.order)?;
+    let input = Input {
         question,
         predecessors,
-        approach: &approach,
+        state_order: &state_order,
         components: &components,
         sure,
         zero,
@@ -60,13 +60,13 @@ pub fn find_bounds(
     let states = question.game().states() as usize;
     let mut replies = vec![in alloc; 0u32; states]?;
     let mut node_of = vec![in alloc; NONE; states]?;
-    let lower = lower_bounds(alloc, &frame, &mut replies, &mut node_of)?;
+    let lower = lower_bounds(alloc, &input, &mut replies, &mut node_of)?;
     let values = first_values(lower.values, hints);
     let start = Start {
         values: &values,
         planned: &lower.planned,
     };
-    let upper = upper_table(alloc, &frame, &start, &mut replies, &mut node_of)?;
+    let upper = upper_table(alloc, &input, &start, &mut replies, &mut node_of)?;
     Ok(Candidates {
         lower: lower.table.into_entries(),
         upper: upper.into_entries(),
@@ -112,23 +112,23 @@ struct Lower {
 /// Finds the lower table, and the minimiser's best replies to it.
 fn lower_bounds(
     alloc: Global,
-    frame: &Frame<'_, '_>,
+    input: &Input<'_, '_>,
     replies: &mut [u32],
     node_of: &mut [u32],
 ) -> Result<Lower, OutOfMemory>
-    requires { length replies.old ≡ states frame.now.question.now }
+    requires { length replies.old ≡ states input.now.question.now }
     ensures replies { length replies.new ≡ length replies.old }
-    ensures table { IfOk result (λ l. length l.table ≡ states frame.now.question.now) }
+    ensures table { IfOk result (λ l. length l.table ≡ states input.now.question.now) }
 {
-    let states = frame.question.game().states() as usize;
-    let mut table = known_table(alloc, frame.question, frame.sure)?;
+    let states = input.question.game().states() as usize;
+    let mut table = known_table(alloc, input.question, input.sure)?;
     let mut planned = vec![in alloc; 0u32; states]?;
     let mut values = vec![in alloc; 0.0; states]?;
-    for component in 0..frame.components.count() {
-        if is_open_component(frame, component) {
+    for component in 0..input.components.count() {
+        if is_open_component(input, component) {
             lower_component(
                 alloc,
-                frame,
+                input,
                 component,
                 &mut table,
                 &mut planned,
@@ -148,22 +148,22 @@ fn lower_bounds(
 /// Finds the upper table over the replies, and again from the first component where these can be improved.
 fn upper_table(
     alloc: Global,
-    frame: &Frame<'_, '_>,
+    input: &Input<'_, '_>,
     start: &Start<'_>,
     replies: &mut [u32],
     node_of: &mut [u32],
 ) -> Result<UnitTable, OutOfMemory>
-    requires replies { length replies.old ≡ states frame.now.question.now }
-    ensures { IfOk result (λ t. length t ≡ states frame.now.question.now) }
+    requires replies { length replies.old ≡ states input.now.question.now }
+    ensures { IfOk result (λ t. length t ≡ states input.now.question.now) }
 {
-    let mut table = known_table(alloc, frame.question, frame.sure)?;
+    let mut table = known_table(alloc, input.question, input.sure)?;
     let mut shown = shown_values(alloc, &table)?;
     let mut first: u32 = 0;
     for _ in 0..TURNS {
         upper_turn(
-            alloc, frame, first, start, &mut table, &mut shown, replies, node_of,
+            alloc, input, first, start, &mut table, &mut shown, replies, node_of,
         )?;
-        let Some(changed) = improve_replies(frame, &shown, replies) else {
+        let Some(changed) = improve_replies(input, &shown, replies) else {
             break;
         };
         first = changed;
@@ -183,7 +183,7 @@ fn shown_values(alloc: Global, table: &UnitTable) -> Result<Vec<f64>, OutOfMemor
 /// Finds upper entries of all components from this one on, over these replies, and values to compare replies by.
 fn upper_turn(
     alloc: Global,
-    frame: &Frame<'_, '_>,
+    input: &Input<'_, '_>,
     first: u32,
     start: &Start<'_>,
     table: &mut UnitTable,
@@ -191,17 +191,17 @@ fn upper_turn(
     replies: &mut [u32],
     node_of: &mut [u32],
 ) -> Result<(), OutOfMemory>
-    requires table { length table.old ≡ states frame.now.question.now }
-    requires replies { length replies.old ≡ states frame.now.question.now }
+    requires table { length table.old ≡ states input.now.question.now }
+    requires replies { length replies.old ≡ states input.now.question.now }
     ensures table { length table.new ≡ length table.old }
     ensures replies { length replies.new ≡ length replies.old }
 {
-    let end_components = find_end_components(alloc, frame, replies)?;
-    for component in first..frame.components.count() {
-        if is_open_component(frame, component) {
+    let end_components = find_end_components(alloc, input, replies)?;
+    for component in first..input.components.count() {
+        if is_open_component(input, component) {
             upper_component(
                 alloc,
-                frame,
+                input,
                 component,
                 &end_components,
                 start,
@@ -216,12 +216,12 @@ fn upper_turn(
 }
 
 /// Returns whether the states of a component have values that are neither 1 nor 0.
-fn is_open_component(frame: &Frame<'_, '_>, component: u32) -> bool
-    requires { component + 1 < length frame.now.components.now.starts }
+fn is_open_component(input: &Input<'_, '_>, component: u32) -> bool
+    requires { component + 1 < length input.now.components.now.starts }
 {
-    match frame.components.members(component).first().copied() {
-        Some(state) => state < frame.question.game().states()
-            && is_open(frame.sure, frame.zero, state),
+    match input.components.members(component).first().copied() {
+        Some(state) => state < input.question.game().states()
+            && is_open(input.sure, input.zero, state),
         None => false,
     }
 }

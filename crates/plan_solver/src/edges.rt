@@ -2,7 +2,7 @@
 
 ghost use Rattle.std.specs.Prelude.{◌≡◌, ◌<◌, length};
 
-use crate::approach::NONE;
+use crate::state_order::NONE;
 use crate::weights::{float_of, is_narrow};
 use float_games::Draft;
 use game_model::{Question, Row};

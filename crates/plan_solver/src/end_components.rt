@@ -5,8 +5,8 @@ ghost use Rattle.game_model.specs.Game.{choices_of};
 ghost use Rattle.game_model.specs.Query.{states};
 ghost use Rattle.components.specs.Division.{states_of};
 
-use crate::approach::NONE;
-use crate::frame::{Frame, is_open};
+use crate::state_order::NONE;
+use crate::input::{Input, is_open};
 use crate::lower::note;
 use components::Components;
 use game_model::{Marks, Question, Side};
@@ -110,37 +110,37 @@ impl EndComponents {
 /// out.
 pub(crate) fn find_end_components(
     alloc: Global,
-    frame: &Frame<'_, '_>,
+    input: &Input<'_, '_>,
     replies: &[u32],
 ) -> Result<EndComponents, OutOfMemory>
-    requires { length replies.now ≡ states frame.now.question.now }
+    requires { length replies.now ≡ states input.now.question.now }
 {
-    if !has_free_choice(frame) {
+    if !has_free_choice(input) {
         return Ok(EndComponents::alone(alloc));
     }
-    let posed = open_question(alloc, frame)?;
+    let posed = open_question(alloc, input)?;
     let played = played(alloc, replies)?;
-    let traps = traps_over(alloc, &posed, frame.predecessors, &played)?;
+    let traps = traps_over(alloc, &posed, input.predecessors, &played)?;
     if traps.count == 0 {
         return Ok(EndComponents::alone(alloc));
     }
-    EndComponents::of_traps(alloc, &traps, &frame.approach.order)
+    EndComponents::of_traps(alloc, &traps, &input.state_order.order)
 }
 
 /// Makes the question without goals in which each state of value 1 or 0 is dead.
-fn open_question<'q>(alloc: Global, frame: &Frame<'_, 'q>) -> Result<Question<'q>, OutOfMemory>
-    ensures { IfOk result (λ posed. posed.game ≡ frame.now.question.now.game) }
+fn open_question<'q>(alloc: Global, input: &Input<'_, 'q>) -> Result<Question<'q>, OutOfMemory>
+    ensures { IfOk result (λ posed. posed.game ≡ input.now.question.now.game) }
 {
-    frame.question.known();
-    let states = frame.question.game().states();
+    input.question.known();
+    let states = input.question.game().states();
     let goals = vec![in alloc; false; states as usize]?;
     let mut sides = Vec::with_capacity(alloc, states as usize)?;
     let mut closed = Vec::with_capacity(alloc, states as usize)?;
     for state in 0..states {
-        sides.push(frame.question.side(state))?;
-        closed.push(!is_open(frame.sure, frame.zero, state))?;
+        sides.push(input.question.side(state))?;
+        closed.push(!is_open(input.sure, input.zero, state))?;
     }
-    Ok(Question::build(frame.question.game(), sides, goals, closed))
+    Ok(Question::build(input.question.game(), sides, goals, closed))
 }
 
 /// Returns the replies as those of a plan.
@@ -153,11 +153,11 @@ fn played(alloc: Global, replies: &[u32]) -> Result<Vec<Option<u32>>, OutOfMemor
 
 /// Returns whether the maximiser has more than one choice at a state whose value is neither 1 nor 0. Otherwise nobody
 /// can stay in a component for ever, because all its values would be 0.
-fn has_free_choice(frame: &Frame<'_, '_>) -> bool {
-    for state in 0..frame.question.game().states() {
-        if is_open(frame.sure, frame.zero, state)
-            && frame.question.side(state) == Side::Max
-            && frame.question.game().choices_of(state) > 1
+fn has_free_choice(input: &Input<'_, '_>) -> bool {
+    for state in 0..input.question.game().states() {
+        if is_open(input.sure, input.zero, state)
+            && input.question.side(state) == Side::Max
+            && input.question.game().choices_of(state) > 1
         {
             return true;
         }

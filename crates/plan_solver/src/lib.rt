@@ -11,11 +11,11 @@
 //! clock, so the same question gives the same tables on every machine.
 #![tactic(auto)]
 
-mod approach;
+mod state_order;
 mod bounds;
 mod edges;
 mod end_components;
-mod frame;
+mod input;
 mod lower;
 mod replies;
 mod upper;

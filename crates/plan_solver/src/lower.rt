@@ -3,16 +3,16 @@
 ghost use Rattle.std.specs.Prelude.{◌≡◌, ◌+◌, ◌<◌, length};
 ghost use Rattle.game_model.specs.Query.{states};
 
-use crate::approach::NONE;
+use crate::state_order::NONE;
 use crate::edges::{add_edges, draft_of};
-use crate::frame::Frame;
+use crate::input::Input;
 use float_games::{Bound, Draft, FloatGame};
 use game_model::{Question, Side};
 use game_outside::OutOfMemory;
 use local_values::solve_nearly;
 use std::alloc::Global;
 use std::num::nearest_u64_to_f64;
-use table_rounding::{Setting, UnitTable, round_component, single_entry};
+use table_rounding::{Input, UnitTable, round_component, single_entry};
 
 /// The local game of a component comes with an initial policy.
 #[derive(Drop)]
@@ -26,7 +26,7 @@ struct Local {
 /// the choices that lead toward a goal, so that no value is kept up by play that stays for ever.
 pub(crate) fn lower_component(
     alloc: Global,
-    frame: &Frame<'_, '_>,
+    input: &Input<'_, '_>,
     component: u32,
     lower: &mut UnitTable,
     planned: &mut [u32],
@@ -34,17 +34,17 @@ pub(crate) fn lower_component(
     found: &mut [f64],
     node_of: &mut [u32],
 ) -> Result<(), OutOfMemory>
-    requires counted { component + 1 < length frame.now.components.now.starts }
-    requires lower { length lower.old ≡ states frame.now.question.now }
-    requires planned { length planned.old ≡ states frame.now.question.now }
+    requires counted { component + 1 < length input.now.components.now.starts }
+    requires lower { length lower.old ≡ states input.now.question.now }
+    requires planned { length planned.old ≡ states input.now.question.now }
     ensures lower { length lower.new ≡ length lower.old }
     ensures planned { length planned.new ≡ length planned.old }
     ensures replies { length replies.new ≡ length replies.old }
 {
-    let members = frame.components.members(component);
+    let members = input.components.members(component);
     if members.len() == 1 {
         let state = members[0];
-        let entry = single_entry(frame.question, lower, Bound::Lower, state);
+        let entry = single_entry(input.question, lower, Bound::Lower, state);
         lower.set(state, entry.value);
         note(planned, state, entry.choice);
         note(replies, state, entry.choice);
@@ -52,7 +52,7 @@ pub(crate) fn lower_component(
         return Ok(());
     }
     let nodes = numbers(alloc, members.len())?;
-    let Some(local) = local_game(alloc, frame, members, &nodes, lower, node_of)? else {
+    let Some(local) = local_game(alloc, input, members, &nodes, lower, node_of)? else {
         return Ok(());
     };
     let game = local.game;
@@ -68,16 +68,16 @@ pub(crate) fn lower_component(
             note_value(found, *state, *value);
         }
     }
-    let setting = Setting {
-        question: frame.question,
-        predecessors: frame.predecessors,
-        components: frame.components,
+    let input = Input {
+        question: input.question,
+        predecessors: input.predecessors,
+        components: input.components,
         component,
         game: &game,
         nodes: &nodes,
         bound: Bound::Lower,
     };
-    let _is_held = round_component(alloc, &setting, &values, &policy, planned, lower)?;
+    let _is_held = round_component(alloc, &input, &values, &policy, planned, lower)?;
     Ok(())
 }
 
@@ -122,20 +122,20 @@ pub(crate) fn clear_nodes(members: &[u32], node_of: &mut [u32]) {
 /// Makes the local game, with a node for each member. What leaves it gives what the table says.
 fn local_game(
     alloc: Global,
-    frame: &Frame<'_, '_>,
+    input: &Input<'_, '_>,
     members: &[u32],
     nodes: &[u32],
     lower: &UnitTable,
     node_of: &mut [u32],
 ) -> Result<Option<Local>, OutOfMemory> {
     place_nodes(members, nodes, node_of);
-    let toward = &frame.approach.toward;
-    let mut draft = draft_of(alloc, frame.question, members)?;
+    let toward = &input.state_order.toward;
+    let mut draft = draft_of(alloc, input.question, members)?;
     let mut policy = Vec::with_capacity(alloc, members.len())?;
     for state in members {
-        if *state < frame.question.game().states() {
+        if *state < input.question.game().states() {
             let wanted = toward.get(*state as usize).copied().unwrap_or(NONE);
-            policy.push(add_state(frame.question, wanted, lower, node_of, *state, &mut draft)?)?;
+            policy.push(add_state(input.question, wanted, lower, node_of, *state, &mut draft)?)?;
         }
     }
     clear_nodes(members, node_of);

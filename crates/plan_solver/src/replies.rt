@@ -3,7 +3,7 @@
 ghost use Rattle.std.specs.Prelude.{◌≡◌, ◌<◌, length};
 ghost use Rattle.game_model.specs.Query.{states};
 
-use crate::frame::{Frame, is_open};
+use crate::input::{Input, is_open};
 use crate::lower::note;
 use crate::weights::{float_of, is_narrow};
 use game_model::{Question, Row, Side};
@@ -14,16 +14,16 @@ const GAIN: f64 = 4.0;
 
 /// Exchanges replies for better ones. Returns the first component with an exchange, or nothing if there is none.
 pub(crate) fn improve_replies(
-    frame: &Frame<'_, '_>,
+    input: &Input<'_, '_>,
     upper: &[f64],
     replies: &mut [u32],
 ) -> Option<u32>
     ensures { length replies.new ≡ length replies.old }
 {
     let mut first: Option<u32> = None;
-    for state in 0..frame.question.game().states() {
-        if is_improved(frame, upper, replies, state) {
-            let component = frame.components.component_of(state);
+    for state in 0..input.question.game().states() {
+        if is_improved(input, upper, replies, state) {
+            let component = input.components.component_of(state);
             first = match first {
                 Some(earlier) => Some(earlier.min(component)),
                 None => Some(component),
@@ -34,18 +34,18 @@ pub(crate) fn improve_replies(
 }
 
 /// Exchanges the reply of a state for a better one, and returns whether there is one.
-fn is_improved(frame: &Frame<'_, '_>, upper: &[f64], replies: &mut [u32], state: u32) -> bool
-    requires state { state < states frame.now.question.now }
+fn is_improved(input: &Input<'_, '_>, upper: &[f64], replies: &mut [u32], state: u32) -> bool
+    requires state { state < states input.now.question.now }
     ensures { length replies.new ≡ length replies.old }
 {
-    if frame.question.game().choices_of(state) == 1
-        || frame.question.side(state) == Side::Max
-        || !is_open(frame.sure, frame.zero, state)
+    if input.question.game().choices_of(state) == 1
+        || input.question.side(state) == Side::Max
+        || !is_open(input.sure, input.zero, state)
     {
         return false;
     }
     let own = value_at(upper, state);
-    let best = best_reply(frame.question, upper, state);
+    let best = best_reply(input.question, upper, state);
     if !(best.value < own - GAIN) || replies.get(state as usize).copied() == Some(best.choice) {
         return false;
     }

@@ -3,10 +3,10 @@
 ghost use Rattle.std.specs.Prelude.{◌≡◌, ◌+◌, ◌<◌, length};
 ghost use Rattle.game_model.specs.Query.{states};
 
-use crate::approach::NONE;
+use crate::state_order::NONE;
 use crate::edges::{add_edges, draft_of};
 use crate::end_components::EndComponents;
-use crate::frame::Frame;
+use crate::input::Input;
 use crate::lower::{clear_nodes, note, note_value, numbers, place_nodes};
 use crate::replies::is_played;
 use float_games::{Bound, Draft, FloatGame};
@@ -15,7 +15,7 @@ use game_outside::OutOfMemory;
 use local_values::solve_nearly;
 use std::alloc::Global;
 use std::num::nearest_u64_to_f64;
-use table_rounding::{Setting, UnitTable, round_component, single_entry};
+use table_rounding::{Input, UnitTable, round_component, single_entry};
 
 /// Upper values begin with a value for each state, in units, and a choice of the maximiser.
 #[derive(Drop)]
@@ -48,7 +48,7 @@ struct Local {
 /// the choices that leave it. If no values are found, the entries are the unit.
 pub(crate) fn upper_component(
     alloc: Global,
-    frame: &Frame<'_, '_>,
+    input: &Input<'_, '_>,
     component: u32,
     end_components: &EndComponents,
     start: &Start<'_>,
@@ -57,49 +57,49 @@ pub(crate) fn upper_component(
     replies: &mut [u32],
     node_of: &mut [u32],
 ) -> Result<(), OutOfMemory>
-    requires counted { component + 1 < length frame.now.components.now.starts }
-    requires upper { length upper.old ≡ states frame.now.question.now }
-    requires replies { length replies.old ≡ states frame.now.question.now }
+    requires counted { component + 1 < length input.now.components.now.starts }
+    requires upper { length upper.old ≡ states input.now.question.now }
+    requires replies { length replies.old ≡ states input.now.question.now }
     ensures upper { length upper.new ≡ length upper.old }
     ensures replies { length replies.new ≡ length replies.old }
 {
-    let members = frame.components.members(component);
+    let members = input.components.members(component);
     if members.len() == 1 {
         let state = members[0];
-        let entry = single_entry(frame.question, upper, Bound::Upper, state);
+        let entry = single_entry(input.question, upper, Bound::Upper, state);
         upper.set(state, entry.value);
         note_value(shown, state, nearest_u64_to_f64(entry.value));
         note(replies, state, entry.choice);
         return Ok(());
     }
-    give_up(frame, component, upper);
-    let nodes = nodes_of_members(alloc, frame, component, end_components)?;
+    give_up(input, component, upper);
+    let nodes = nodes_of_members(alloc, input, component, end_components)?;
     let shape = Shape {
         nodes: &nodes,
         end_components,
         planned: start.planned,
         replies,
     };
-    let Some(local) = local_game(alloc, frame, members, &shape, upper, node_of)? else {
+    let Some(local) = local_game(alloc, input, members, &shape, upper, node_of)? else {
         return Ok(());
     };
     let game = local.game;
     let mut policy = local.policy;
-    let mut values = first_values(alloc, frame, component, &nodes, start.values, game.nodes())?;
+    let mut values = first_values(alloc, input, component, &nodes, start.values, game.nodes())?;
     if values.len() != game.nodes() || policy.len() != game.nodes() {
         return Ok(());
     }
     solve_nearly(alloc, &game, &mut values, &mut policy)?;
-    let setting = Setting {
-        question: frame.question,
-        predecessors: frame.predecessors,
-        components: frame.components,
+    let input = Input {
+        question: input.question,
+        predecessors: input.predecessors,
+        components: input.components,
         component,
         game: &game,
         nodes: &nodes,
         bound: Bound::Upper,
     };
-    let is_held = round_component(alloc, &setting, &values, &policy, replies, upper)?;
+    let is_held = round_component(alloc, &input, &values, &policy, replies, upper)?;
     show(members, &nodes, &values, is_held, upper, shown);
     Ok(())
 }
@@ -125,12 +125,12 @@ fn show(
 }
 
 /// Gives the states of a component the entry that always holds.
-fn give_up(frame: &Frame<'_, '_>, component: u32, upper: &mut UnitTable)
-    requires counted { component + 1 < length frame.now.components.now.starts }
-    requires upper { length upper.old ≡ states frame.now.question.now }
+fn give_up(input: &Input<'_, '_>, component: u32, upper: &mut UnitTable)
+    requires counted { component + 1 < length input.now.components.now.starts }
+    requires upper { length upper.old ≡ states input.now.question.now }
     ensures { length upper.new ≡ length upper.old }
 {
-    let members = frame.components.members(component);
+    let members = input.components.members(component);
     for place in 0..members.len() {
         upper.set(members[place], u64::MAX);
     }
@@ -139,13 +139,13 @@ fn give_up(frame: &Frame<'_, '_>, component: u32, upper: &mut UnitTable)
 /// Returns the node of each member. Each end component has one, in the order of their first members.
 fn nodes_of_members(
     alloc: Global,
-    frame: &Frame<'_, '_>,
+    input: &Input<'_, '_>,
     component: u32,
     end_components: &EndComponents,
 ) -> Result<Vec<u32>, OutOfMemory>
-    requires { component + 1 < length frame.now.components.now.starts }
+    requires { component + 1 < length input.now.components.now.starts }
 {
-    let members = frame.components.members(component);
+    let members = input.components.members(component);
     if end_components.are_alone() {
         return numbers(alloc, members.len());
     }
@@ -160,15 +160,15 @@ fn nodes_of_members(
     let mut nodes = Vec::with_capacity(alloc, members.len())?;
     for state in members {
         let lead = end_components.lead_of(*state);
-        nodes.push(node_of(frame, component, &leads, lead))?;
+        nodes.push(node_of(input, component, &leads, lead))?;
     }
     Ok(nodes)
 }
 
 /// Returns the entry of a state in a list over the members of its component.
-fn node_of(frame: &Frame<'_, '_>, component: u32, list: &[u32], state: u32) -> u32 {
-    if state < frame.question.game().states() && frame.components.component_of(state) == component {
-        let place = frame.components.place_of(state) as usize;
+fn node_of(input: &Input<'_, '_>, component: u32, list: &[u32], state: u32) -> u32 {
+    if state < input.question.game().states() && input.components.component_of(state) == component {
+        let place = input.components.place_of(state) as usize;
         list.get(place).copied().unwrap_or(0)
     } else {
         0
@@ -178,16 +178,16 @@ fn node_of(frame: &Frame<'_, '_>, component: u32, list: &[u32], state: u32) -> u
 /// Returns the initial value of each node, which is the greatest of its members.
 fn first_values(
     alloc: Global,
-    frame: &Frame<'_, '_>,
+    input: &Input<'_, '_>,
     component: u32,
     nodes: &[u32],
     start: &[f64],
     count: usize,
 ) -> Result<Vec<f64>, OutOfMemory>
-    requires counted { component + 1 < length frame.now.components.now.starts }
+    requires counted { component + 1 < length input.now.components.now.starts }
 {
     let mut values = vec![in alloc; 0.0; count]?;
-    for (place, state) in frame.components.members(component).iter().enumerate() {
+    for (place, state) in input.components.members(component).iter().enumerate() {
         let node = nodes.get(place).copied().unwrap_or(0) as usize;
         let value = start.get(*state as usize).copied().unwrap_or(0.0);
         if let Some(entry) = values.get_mut(node) {
@@ -202,14 +202,14 @@ fn first_values(
 /// Makes the local game. What leaves it gives what the table says.
 fn local_game(
     alloc: Global,
-    frame: &Frame<'_, '_>,
+    input: &Input<'_, '_>,
     members: &[u32],
     shape: &Shape<'_>,
     upper: &UnitTable,
     node_of: &mut [u32],
 ) -> Result<Option<Local>, OutOfMemory> {
     place_nodes(members, shape.nodes, node_of);
-    let question = frame.question;
+    let question = input.question;
     let mut draft = draft_of(alloc, question, members)?;
     let mut policy = Vec::with_capacity(alloc, members.len())?;
     for state in members {

@@ -18,7 +18,7 @@ use sample_games::{Draw, Shape, game_of, question_of, random_game};
 use std::alloc::Global;
 use std::num::nearest_u64_to_f64;
 use std::test::Fail;
-use table_rounding::{Setting, UnitTable, round_component, single_entry};
+use table_rounding::{Input, UnitTable, round_component, single_entry};
 
 /// A gambler with 1 to 3 of 4 coins bets one coin at a time. State 0 is ruin, and state 4 is the goal.
 fn gambler(alloc: Global) -> Result<Game, Fail> {
@@ -134,7 +134,7 @@ fn fill(
     }
     let game = local_game(alloc, question, components, component, table)?;
     let nodes = numbers(alloc, game.nodes() as u32)?;
-    let setting = Setting {
+    let input = Input {
         question,
         predecessors,
         components,
@@ -143,7 +143,7 @@ fn fill(
         nodes: &nodes,
         bound,
     };
-    round(alloc, &setting, table)
+    round(alloc, &input, table)
 }
 
 /// Fills in the entry of a component of one state, from the table only.
@@ -173,18 +173,18 @@ fn numbers(alloc: Global, count: u32) -> Result<Vec<u32>, Fail> {
 }
 
 /// Fills in the entries of a component by the values of its local game.
-fn round(alloc: Global, setting: &Setting<'_, '_>, table: &mut UnitTable) -> Result<(), Fail>
-    requires { length table.old ≡ states setting.now.question.now }
+fn round(alloc: Global, input: &Input<'_, '_>, table: &mut UnitTable) -> Result<(), Fail>
+    requires { length table.old ≡ states input.now.question.now }
     ensures { length table.new ≡ length table.old }
 {
-    let game = setting.game;
+    let game = input.game;
     let mut policy = game.first_policy(alloc)?;
     let mut values = solved(alloc, game, &mut policy)?;
     refine(alloc, game, &policy, &mut values)?;
-    let mut planned = vec![in alloc; 0u32; setting.question.game().states() as usize]?;
-    let members = setting.components.members(setting.component);
+    let mut planned = vec![in alloc; 0u32; input.question.game().states() as usize]?;
+    let members = input.components.members(input.component);
     plan(game, members, &policy, &mut planned);
-    let _is_held = round_component(alloc, setting, &values, &policy, &mut planned, table)?;
+    let _is_held = round_component(alloc, input, &values, &policy, &mut planned, table)?;
     Ok(())
 }
 

@@ -15,13 +15,13 @@
 #![tactic(auto)]
 
 mod exact;
-mod mending;
+mod repair;
 mod rounding;
-mod setting;
-mod slopes;
+mod input;
+mod margins;
 mod table;
 
 pub use exact::{Entry, single_entry};
-pub use setting::Setting;
-pub use slopes::round_component;
+pub use input::Input;
+pub use margins::round_component;
 pub use table::UnitTable;

@@ -4,8 +4,8 @@ ghost use Rattle.std.specs.Prelude.{◌≡◌, ◌<◌, IfOk, length, vec_len};
 ghost use Rattle.game_model.specs.Query.{states};
 ghost use Rattle.float_games.specs.Nodes.{nodes_of};
 
-use crate::mending::mend;
-use crate::setting::Setting;
+use crate::repair::repair;
+use crate::input::Input;
 use crate::table::UnitTable;
 use float_games::{Bound, whole_units};
 use game_outside::OutOfMemory;
@@ -31,31 +31,31 @@ const FEW: usize = 2_000;
 /// are then anything.
 pub(crate) fn try_values(
     alloc: Global,
-    setting: &Setting<'_, '_>,
+    input: &Input<'_, '_>,
     values: &[f64],
     policy: &[u32],
     planned: &[u32],
     table: &mut UnitTable,
     effort: Effort,
 ) -> Result<bool, OutOfMemory>
-    requires values { length values.now ≡ nodes_of setting.now.game.now }
-    requires policy { length policy.now ≡ nodes_of setting.now.game.now }
-    requires planned { length planned.now ≡ states setting.now.question.now }
-    requires many { length table.old ≡ states setting.now.question.now }
+    requires values { length values.now ≡ nodes_of input.now.game.now }
+    requires policy { length policy.now ≡ nodes_of input.now.game.now }
+    requires planned { length planned.now ≡ states input.now.question.now }
+    requires many { length table.old ≡ states input.now.question.now }
     ensures { length table.new ≡ length table.old }
 {
-    let mut units = rounded(alloc, setting.bound, values)?;
-    if !settle(setting, &mut units, policy, effort) {
+    let mut units = rounded(alloc, input.bound, values)?;
+    if !settle(input, &mut units, policy, effort) {
         return Ok(false);
     }
-    store(setting, &units, table);
-    let nodes = setting.game.nodes() as u64;
+    store(input, &units, table);
+    let nodes = input.game.nodes() as u64;
     let share = if effort.is_hasty {
         nodes / 4
     } else {
         2 * nodes
     };
-    mend(alloc, setting, planned, table, 1_000 + share)
+    repair(alloc, input, planned, table, 1_000 + share)
 }
 
 /// Returns the values as whole units, on the side of the bound.
@@ -70,15 +70,15 @@ fn rounded(alloc: Global, bound: Bound, values: &[f64]) -> Result<Vec<f64>, OutO
 }
 
 /// Takes rounded steps until few values change. Returns false if that takes long.
-fn settle(setting: &Setting<'_, '_>, units: &mut [f64], policy: &[u32], effort: Effort) -> bool
-    requires units { length units.old ≡ nodes_of setting.now.game.now }
-    requires policy { length policy.now ≡ nodes_of setting.now.game.now }
+fn settle(input: &Input<'_, '_>, units: &mut [f64], policy: &[u32], effort: Effort) -> bool
+    requires units { length units.old ≡ nodes_of input.now.game.now }
+    requires policy { length policy.now ≡ nodes_of input.now.game.now }
 {
-    let few = setting.game.nodes() / FEW;
+    let few = input.game.nodes() / FEW;
     let mut looked: u64 = 0;
     let mut before: Option<usize> = None;
     for sweep in 1..SWEEPS {
-        let rounded = setting.game.sweep_rounded(setting.bound, units, policy);
+        let rounded = input.game.sweep_rounded(input.bound, units, policy);
         if rounded.changed <= few {
             return true;
         }
@@ -97,13 +97,13 @@ fn settle(setting: &Setting<'_, '_>, units: &mut [f64], policy: &[u32], effort: 
 }
 
 /// Puts the units of nodes into the table, at the states of the component.
-fn store(setting: &Setting<'_, '_>, units: &[f64], table: &mut UnitTable)
-    requires many { length table.old ≡ states setting.now.question.now }
+fn store(input: &Input<'_, '_>, units: &[f64], table: &mut UnitTable)
+    requires many { length table.old ≡ states input.now.question.now }
     ensures { length table.new ≡ length table.old }
 {
-    let members = setting.components.members(setting.component);
+    let members = input.components.members(input.component);
     for place in 0..members.len() {
-        let node = setting.nodes.get(place).copied().unwrap_or(0);
+        let node = input.nodes.get(place).copied().unwrap_or(0);
         let value = units.get(node as usize).copied().unwrap_or(0.0);
         table.set(members[place], saturating_f64_to_u64(value));
     }

@@ -4,7 +4,7 @@ use Rattle.plan_solver.proofs.bounds.lower_bounds.Given as goal
 
 abbrev pub invariant-loop-component : goal.invariant-loop-component
 invariant-loop-component l = record {
-  table : length l.table ≡ states l.frame.question.now;
-  replies : length l.replies ≡ states l.frame.question.now;
-  planned : vec_len l.planned ≡ states l.frame.question.now;
+  table : length l.table ≡ states l.input.question.now;
+  replies : length l.replies ≡ states l.input.question.now;
+  planned : vec_len l.planned ≡ states l.input.question.now;
 }

@@ -3,4 +3,4 @@ use Rattle.game_model.specs.Query.{states}
 use Rattle.plan_solver.proofs.upper.give_up.Given as goal
 
 abbrev pub invariant-loop-place : goal.invariant-loop-place
-invariant-loop-place l = length l.upper ≡ states l.frame.question.now
+invariant-loop-place l = length l.upper ≡ states l.input.question.now

@@ -1,6 +1,6 @@
 use Rattle.std.proofs.Common.{◌≡◌, vec_len}
 use Rattle.game_model.specs.Query.{states}
-use Rattle.plan_solver.proofs.approach.Approach.of_goals.Given as goal
+use Rattle.plan_solver.proofs.state_order.StateOrder.of_goals.Given as goal
 
 abbrev pub invariant-loop-state : goal.invariant-loop-state
 invariant-loop-state l = vec_len l.next_choice ≡ states l.question

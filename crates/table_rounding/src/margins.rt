@@ -5,7 +5,7 @@ ghost use Rattle.game_model.specs.Query.{states};
 ghost use Rattle.float_games.specs.Nodes.{nodes_of};
 
 use crate::rounding::{Effort, try_values};
-use crate::setting::Setting;
+use crate::input::Input;
 use crate::table::UnitTable;
 use float_games::Bound;
 use game_model::{Side, UNIT};
@@ -41,40 +41,40 @@ const NEAR: f64 = 200.0;
 /// are then 0, or the unit in an upper table. The only error is that memory ran out.
 pub fn round_component(
     alloc: Global,
-    setting: &Setting<'_, '_>,
+    input: &Input<'_, '_>,
     values: &[f64],
     policy: &[u32],
     planned: &mut [u32],
     table: &mut UnitTable,
 ) -> Result<bool, OutOfMemory>
-    requires values { length values.now ≡ nodes_of setting.now.game.now }
-    requires policy { length policy.now ≡ nodes_of setting.now.game.now }
-    requires planned { length planned.old ≡ states setting.now.question.now }
-    requires many { length table.old ≡ states setting.now.question.now }
+    requires values { length values.now ≡ nodes_of input.now.game.now }
+    requires policy { length policy.now ≡ nodes_of input.now.game.now }
+    requires planned { length planned.old ≡ states input.now.question.now }
+    requires many { length table.old ≡ states input.now.question.now }
     ensures { length table.new ≡ length table.old }
 {
-    plan(setting, policy, planned);
-    let nodes = setting.game.nodes();
-    let bold = bold_effort(setting);
-    if nodes <= MOST_BOLD && try_values(alloc, setting, values, policy, planned, table, bold)? {
+    plan(input, policy, planned);
+    let nodes = input.game.nodes();
+    let bold = bold_effort(input);
+    if nodes <= MOST_BOLD && try_values(alloc, input, values, policy, planned, table, bold)? {
         return Ok(true);
     }
-    let slope = try_slope(alloc, setting, values, policy, planned, table)?;
+    let slope = try_slope(alloc, input, values, policy, planned, table)?;
     if slope == Slope::Held {
         return Ok(true);
     }
-    let stopped = entries_of(alloc, setting, table)?;
-    let is_held = try_costs(alloc, setting, values, policy, planned, table)?;
+    let stopped = entries_of(alloc, input, table)?;
+    let is_held = try_costs(alloc, input, values, policy, planned, table)?;
     if slope == Slope::Failed {
         if !is_held {
-            give_up(setting, table);
+            give_up(input, table);
         }
         return Ok(is_held);
     }
-    let costly = entries_of(alloc, setting, table)?;
-    if !is_held || !is_nearer(setting.bound, &costly, &stopped) {
-        plan(setting, policy, planned);
-        put_back(setting, &stopped, table);
+    let costly = entries_of(alloc, input, table)?;
+    if !is_held || !is_nearer(input.bound, &costly, &stopped) {
+        plan(input, policy, planned);
+        put_back(input, &stopped, table);
     }
     Ok(true)
 }
@@ -103,47 +103,47 @@ fn sum_of(entries: &[u64]) -> u128 {
 
 /// Plans the maximiser's choices of a lower table by a policy. An upper table has choices of the minimiser, and the
 /// local game has only its replies.
-fn plan(setting: &Setting<'_, '_>, policy: &[u32], planned: &mut [u32])
-    requires { length planned.old ≡ states setting.now.question.now }
+fn plan(input: &Input<'_, '_>, policy: &[u32], planned: &mut [u32])
+    requires { length planned.old ≡ states input.now.question.now }
 {
-    if setting.bound == Bound::Upper {
+    if input.bound == Bound::Upper {
         return;
     }
-    let members = setting.components.members(setting.component);
+    let members = input.components.members(input.component);
     for place in 0..members.len() {
         let state = members[place];
-        let choice = setting
+        let choice = input
             .nodes
             .get(place)
             .and_then(|node| policy.get(*node as usize));
-        if let (Side::Max, Some(choice)) = (setting.question.side(state), choice) {
-            planned[state as usize] = setting.game.mark(*choice);
+        if let (Side::Max, Some(choice)) = (input.question.side(state), choice) {
+            planned[state as usize] = input.game.mark(*choice);
         }
     }
 }
 
 /// Returns about how many choices a sweep looks at, which are more if the game has nodes of both sides.
-fn sweep_work(setting: &Setting<'_, '_>) -> u64 {
-    let both = if setting.game.has_both_sides() {
-        setting.game.edges() as u64 / 3
+fn sweep_work(input: &Input<'_, '_>) -> u64 {
+    let both = if input.game.has_both_sides() {
+        input.game.edges() as u64 / 3
     } else {
         0
     };
-    (setting.game.nodes() as u64).saturating_add(both)
+    (input.game.nodes() as u64).saturating_add(both)
 }
 
 /// Returns the effort of the try of the values themselves.
-fn bold_effort(setting: &Setting<'_, '_>) -> Effort {
+fn bold_effort(input: &Input<'_, '_>) -> Effort {
     Effort {
-        looks: sweep_work(setting).saturating_mul(12).saturating_add(7_000),
-        is_hasty: setting.game.nodes() > MANY,
+        looks: sweep_work(input).saturating_mul(12).saturating_add(7_000),
+        is_hasty: input.game.nodes() > MANY,
     }
 }
 
 /// Returns the effort of other tries.
-fn full_effort(setting: &Setting<'_, '_>) -> Effort {
+fn full_effort(input: &Input<'_, '_>) -> Effort {
     Effort {
-        looks: sweep_work(setting)
+        looks: sweep_work(input)
             .saturating_mul(40)
             .saturating_add(33_000),
         is_hasty: false,
@@ -153,36 +153,36 @@ fn full_effort(setting: &Setting<'_, '_>) -> Effort {
 /// Tries values that are moved away by some units for each move that the policy is expected to make.
 fn try_slope(
     alloc: Global,
-    setting: &Setting<'_, '_>,
+    input: &Input<'_, '_>,
     values: &[f64],
     policy: &[u32],
     planned: &[u32],
     table: &mut UnitTable,
 ) -> Result<Slope, OutOfMemory>
-    requires values { length values.now ≡ nodes_of setting.now.game.now }
-    requires policy { length policy.now ≡ nodes_of setting.now.game.now }
-    requires planned { length planned.now ≡ states setting.now.question.now }
-    requires many { length table.old ≡ states setting.now.question.now }
+    requires values { length values.now ≡ nodes_of input.now.game.now }
+    requires policy { length policy.now ≡ nodes_of input.now.game.now }
+    requires planned { length planned.now ≡ states input.now.question.now }
+    requires many { length table.old ≡ states input.now.question.now }
     ensures { length table.new ≡ length table.old }
 {
-    let rooms = rooms_of(alloc, setting, values)?;
-    let Some(slide) = find_slide(alloc, setting.game, policy, SLOPE, &rooms)? else {
+    let rooms = rooms_of(alloc, input, values)?;
+    let Some(slide) = find_slide(alloc, input.game, policy, SLOPE, &rooms)? else {
         return Ok(Slope::Failed);
     };
-    let sign = match setting.bound {
+    let sign = match input.bound {
         Bound::Lower => -1.0,
         Bound::Upper => 1.0,
     };
     let slope = sign * SLOPE;
     let least = between(alloc, values, &slide.drops, sign)?;
     let far = between(alloc, &least, &slide.moves, slope)?;
-    let effort = full_effort(setting);
-    if !try_values(alloc, setting, &far, policy, planned, table, effort)? {
+    let effort = full_effort(input);
+    if !try_values(alloc, input, &far, policy, planned, table, effort)? {
         return Ok(Slope::Failed);
     }
     narrow(
         alloc,
-        setting,
+        input,
         &least,
         &slide.moves,
         slope,
@@ -200,13 +200,13 @@ fn try_slope(
 /// Returns how far each value can be moved away.
 fn rooms_of(
     alloc: Global,
-    setting: &Setting<'_, '_>,
+    input: &Input<'_, '_>,
     values: &[f64],
 ) -> Result<Vec<f64>, OutOfMemory>
     ensures { IfOk result (λ list. vec_len list ≡ length values.now) }
 {
     let mut list = values.to_vec(alloc)?;
-    if setting.bound == Bound::Upper {
+    if input.bound == Bound::Upper {
         for room in &mut list {
             *room = float_games::UNIT - *room;
         }
@@ -217,22 +217,22 @@ fn rooms_of(
 /// Tries values that are found anew when each move costs some units, and more from try to try.
 fn try_costs(
     alloc: Global,
-    setting: &Setting<'_, '_>,
+    input: &Input<'_, '_>,
     values: &[f64],
     policy: &[u32],
     planned: &mut [u32],
     table: &mut UnitTable,
 ) -> Result<bool, OutOfMemory>
-    requires values { length values.now ≡ nodes_of setting.now.game.now }
-    requires policy { length policy.now ≡ nodes_of setting.now.game.now }
-    requires planned { length planned.old ≡ states setting.now.question.now }
-    requires many { length table.old ≡ states setting.now.question.now }
+    requires values { length values.now ≡ nodes_of input.now.game.now }
+    requires policy { length policy.now ≡ nodes_of input.now.game.now }
+    requires planned { length planned.old ≡ states input.now.question.now }
+    requires many { length table.old ≡ states input.now.question.now }
     ensures table { length table.new ≡ length table.old }
     ensures planned { length planned.new ≡ length planned.old }
 {
     let mut cost = COST;
     for _ in 0..COSTS {
-        if try_cost(alloc, setting, cost, values, policy, planned, table)? {
+        if try_cost(alloc, input, cost, values, policy, planned, table)? {
             return Ok(true);
         }
         cost *= COST_GROWTH;
@@ -243,33 +243,33 @@ fn try_costs(
 /// Tries values that are found anew when each move costs this many units.
 fn try_cost(
     alloc: Global,
-    setting: &Setting<'_, '_>,
+    input: &Input<'_, '_>,
     cost: f64,
     values: &[f64],
     policy: &[u32],
     planned: &mut [u32],
     table: &mut UnitTable,
 ) -> Result<bool, OutOfMemory>
-    requires values { length values.now ≡ nodes_of setting.now.game.now }
-    requires policy { length policy.now ≡ nodes_of setting.now.game.now }
-    requires planned { length planned.old ≡ states setting.now.question.now }
-    requires many { length table.old ≡ states setting.now.question.now }
+    requires values { length values.now ≡ nodes_of input.now.game.now }
+    requires policy { length policy.now ≡ nodes_of input.now.game.now }
+    requires planned { length planned.old ≡ states input.now.question.now }
+    requires many { length table.old ≡ states input.now.question.now }
     ensures { length table.new ≡ length table.old }
 {
-    let signed = match setting.bound {
+    let signed = match input.bound {
         Bound::Lower => -cost,
         Bound::Upper => cost,
     };
     let mut away = values.to_vec(alloc)?;
     let mut other = policy.to_vec(alloc)?;
-    let _is_found = solve(alloc, setting.game, signed, &mut away, &mut other)?;
-    plan(setting, &other, planned);
-    let effort = full_effort(setting);
-    if !try_values(alloc, setting, &away, &other, planned, table, effort)? {
+    let _is_found = solve(alloc, input.game, signed, &mut away, &mut other)?;
+    plan(input, &other, planned);
+    let effort = full_effort(input);
+    if !try_values(alloc, input, &away, &other, planned, table, effort)? {
         return Ok(false);
     }
     add_multiple(&mut away, -1.0, values);
-    narrow(alloc, setting, values, &away, 1.0, &other, planned, table)?;
+    narrow(alloc, input, values, &away, 1.0, &other, planned, table)?;
     Ok(true)
 }
 
@@ -292,7 +292,7 @@ fn add_multiple(values: &mut [f64], factor: f64, others: &[f64]) {
 /// Brings entries that hold nearer by halves. They were rounded from values that are moved all the way.
 fn narrow(
     alloc: Global,
-    setting: &Setting<'_, '_>,
+    input: &Input<'_, '_>,
     values: &[f64],
     away: &[f64],
     slope: f64,
@@ -300,42 +300,42 @@ fn narrow(
     planned: &[u32],
     table: &mut UnitTable,
 ) -> Result<(), OutOfMemory>
-    requires values { length values.now ≡ nodes_of setting.now.game.now }
-    requires policy { length policy.now ≡ nodes_of setting.now.game.now }
-    requires planned { length planned.now ≡ states setting.now.question.now }
-    requires many { length table.old ≡ states setting.now.question.now }
+    requires values { length values.now ≡ nodes_of input.now.game.now }
+    requires policy { length policy.now ≡ nodes_of input.now.game.now }
+    requires planned { length planned.now ≡ states input.now.question.now }
+    requires many { length table.old ≡ states input.now.question.now }
     ensures { length table.new ≡ length table.old }
 {
     let width = slope.abs() * widest(away);
-    let effort = full_effort(setting);
-    let least = least_step(setting);
+    let effort = full_effort(input);
+    let least = least_step(input);
     if !(width > least) {
         return Ok(());
     }
-    let mut best = entries_of(alloc, setting, table)?;
+    let mut best = entries_of(alloc, input, table)?;
     let mut near = 0.0;
     let mut end = 1.0;
-    for _ in 0..halves(setting) {
+    for _ in 0..halves(input) {
         if !(width * (end - near) > least) {
             break;
         }
         let part = 0.5 * (near + end);
         let middle = between(alloc, values, away, part * slope)?;
-        if try_values(alloc, setting, &middle, policy, planned, table, effort)? {
+        if try_values(alloc, input, &middle, policy, planned, table, effort)? {
             end = part;
-            best = entries_of(alloc, setting, table)?;
+            best = entries_of(alloc, input, table)?;
         } else {
             near = part;
         }
     }
-    put_back(setting, &best, table);
+    put_back(input, &best, table);
     Ok(())
 }
 
 /// Returns by how many units values are brought nearer at least. This is less for few nodes, because a try then takes
 /// little.
-fn least_step(setting: &Setting<'_, '_>) -> f64 {
-    if setting.game.nodes() <= MANY {
+fn least_step(input: &Input<'_, '_>) -> f64 {
+    if input.game.nodes() <= MANY {
         NEAR_OF_FEW
     } else {
         NEAR
@@ -343,8 +343,8 @@ fn least_step(setting: &Setting<'_, '_>) -> f64 {
 }
 
 /// Returns how many times entries are brought nearer. These are few if a try takes long.
-fn halves(setting: &Setting<'_, '_>) -> u32 {
-    if setting.game.nodes() < 100_000 {
+fn halves(input: &Input<'_, '_>) -> u32 {
+    if input.game.nodes() < 100_000 {
         14
     } else {
         2
@@ -360,12 +360,12 @@ fn widest(list: &[f64]) -> f64 {
 /// Returns the entries of the members of the component.
 fn entries_of(
     alloc: Global,
-    setting: &Setting<'_, '_>,
+    input: &Input<'_, '_>,
     table: &UnitTable,
 ) -> Result<Vec<u64>, OutOfMemory>
-    requires { length table.now ≡ states setting.now.question.now }
+    requires { length table.now ≡ states input.now.question.now }
 {
-    let members = setting.components.members(setting.component);
+    let members = input.components.members(input.component);
     let mut list = Vec::with_capacity(alloc, members.len())?;
     for state in members {
         list.push(table.get(*state))?;
@@ -374,11 +374,11 @@ fn entries_of(
 }
 
 /// Gives the members of the component these entries.
-fn put_back(setting: &Setting<'_, '_>, entries: &[u64], table: &mut UnitTable)
-    requires { length table.old ≡ states setting.now.question.now }
+fn put_back(input: &Input<'_, '_>, entries: &[u64], table: &mut UnitTable)
+    requires { length table.old ≡ states input.now.question.now }
     ensures { length table.new ≡ length table.old }
 {
-    let members = setting.components.members(setting.component);
+    let members = input.components.members(input.component);
     for place in 0..members.len() {
         let entry = entries.get(place).copied().unwrap_or(0);
         table.set(members[place], entry);
@@ -386,15 +386,15 @@ fn put_back(setting: &Setting<'_, '_>, entries: &[u64], table: &mut UnitTable)
 }
 
 /// Gives the members of the component the entry that always holds.
-fn give_up(setting: &Setting<'_, '_>, table: &mut UnitTable)
-    requires { length table.old ≡ states setting.now.question.now }
+fn give_up(input: &Input<'_, '_>, table: &mut UnitTable)
+    requires { length table.old ≡ states input.now.question.now }
     ensures { length table.new ≡ length table.old }
 {
-    let entry = match setting.bound {
+    let entry = match input.bound {
         Bound::Lower => 0,
         Bound::Upper => UNIT,
     };
-    let members = setting.components.members(setting.component);
+    let members = input.components.members(input.component);
     for place in 0..members.len() {
         table.set(members[place], entry);
     }

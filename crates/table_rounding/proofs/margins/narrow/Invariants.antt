@@ -1,6 +1,6 @@
 use Rattle.std.proofs.Common.{◌≡◌, length}
 use Rattle.game_model.specs.Query.{states}
-use Rattle.table_rounding.proofs.slopes.try_costs.Given as goal
+use Rattle.table_rounding.proofs.margins.narrow.Given as goal
 
 abbrev pub invariant-loop : goal.invariant-loop
-invariant-loop l = length l.table ≡ states l.setting.question.now
+invariant-loop l = length l.table ≡ states l.input.question.now

@@ -4,7 +4,7 @@ ghost use Rattle.std.specs.Prelude.{◌≡◌, ◌<◌, length};
 ghost use Rattle.game_model.specs.Query.{states};
 
 use crate::exact::held_entry;
-use crate::setting::Setting;
+use crate::input::Input;
 use crate::table::UnitTable;
 use game_outside::OutOfMemory;
 use std::alloc::Global;
@@ -48,22 +48,22 @@ impl Agenda {
 
 /// Takes exact steps at the states of a component until each entry holds. Returns false if that takes more than this
 /// many steps beyond one for each state.
-pub(crate) fn mend(
+pub(crate) fn repair(
     alloc: Global,
-    setting: &Setting<'_, '_>,
+    input: &Input<'_, '_>,
     planned: &[u32],
     table: &mut UnitTable,
     most: u64,
 ) -> Result<bool, OutOfMemory>
-    requires planned { length planned.now ≡ states setting.now.question.now }
-    requires many { length table.old ≡ states setting.now.question.now }
+    requires planned { length planned.now ≡ states input.now.question.now }
+    requires many { length table.old ≡ states input.now.question.now }
     ensures { length table.new ≡ length table.old }
 {
-    let members = setting.components.members(setting.component);
+    let members = input.components.members(input.component);
     let mut agenda = Agenda::new(alloc, members.len())?;
     for place in 0..members.len() {
         agenda.unmark(place);
-        mend_state(setting, planned, table, &mut agenda, members[place])?;
+        mend_state(input, planned, table, &mut agenda, members[place])?;
     }
     for _ in 0..most {
         let Some(place) = agenda.waiting.pop_front() else {
@@ -71,7 +71,7 @@ pub(crate) fn mend(
         };
         agenda.unmark(place as usize);
         if let Some(state) = members.get(place as usize).copied() {
-            mend_state(setting, planned, table, &mut agenda, state)?;
+            mend_state(input, planned, table, &mut agenda, state)?;
         }
     }
     Ok(agenda.waiting.is_empty())
@@ -79,42 +79,42 @@ pub(crate) fn mend(
 
 /// Takes an exact step at a state. If its entry moves, the states that lead to it wait.
 fn mend_state(
-    setting: &Setting<'_, '_>,
+    input: &Input<'_, '_>,
     planned: &[u32],
     table: &mut UnitTable,
     agenda: &mut Agenda,
     state: u32,
 ) -> Result<(), OutOfMemory>
-    requires planned { length planned.now ≡ states setting.now.question.now }
-    requires many { length table.old ≡ states setting.now.question.now }
+    requires planned { length planned.now ≡ states input.now.question.now }
+    requires many { length table.old ≡ states input.now.question.now }
     ensures { length table.new ≡ length table.old }
 {
-    if state >= setting.question.game().states() {
+    if state >= input.question.game().states() {
         return Ok(());
     }
     let plan = planned[state as usize];
-    let held = held_entry(setting.question, table, setting.bound, state, plan);
+    let held = held_entry(input.question, table, input.bound, state, plan);
     if held == table.get(state) {
         return Ok(());
     }
     table.set(state, held);
-    add_predecessors(setting, agenda, state)
+    add_predecessors(input, agenda, state)
 }
 
 /// Lets the states of the component that lead to a state wait.
 fn add_predecessors(
-    setting: &Setting<'_, '_>,
+    input: &Input<'_, '_>,
     agenda: &mut Agenda,
     state: u32,
 ) -> Result<(), OutOfMemory>
-    requires { state < states setting.now.question.now }
+    requires { state < states input.now.question.now }
 {
-    for step in setting.predecessors.of_state(state) {
+    for step in input.predecessors.of_state(state) {
         let before = step.state;
-        if before < setting.question.game().states()
-            && setting.components.component_of(before) == setting.component
+        if before < input.question.game().states()
+            && input.components.component_of(before) == input.component
         {
-            agenda.add(setting.components.place_of(before))?;
+            agenda.add(input.components.place_of(before))?;
         }
     }
     Ok(())

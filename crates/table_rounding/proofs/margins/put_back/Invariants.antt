@@ -1,6 +1,6 @@
 use Rattle.std.proofs.Common.{◌≡◌, length}
 use Rattle.game_model.specs.Query.{states}
-use Rattle.table_rounding.proofs.slopes.give_up.Given as goal
+use Rattle.table_rounding.proofs.margins.put_back.Given as goal
 
 abbrev pub invariant-loop-place : goal.invariant-loop-place
-invariant-loop-place l = length l.table ≡ states l.setting.question.now
+invariant-loop-place l = length l.table ≡ states l.input.question.now

@@ -1,9 +1,9 @@
 use Rattle.std.proofs.Common.{◌≡◌, length}
 use Rattle.game_model.specs.Query.{states}
-use Rattle.table_rounding.proofs.mending.mend.Given as goal
+use Rattle.table_rounding.proofs.repair.repair.Given as goal
 
 abbrev pub invariant-loop-place : goal.invariant-loop-place
-invariant-loop-place l = length l.table ≡ states l.setting.question.now
+invariant-loop-place l = length l.table ≡ states l.input.question.now
 
 abbrev pub invariant-loop : goal.invariant-loop
-invariant-loop l = length l.table ≡ states l.setting.question.now
+invariant-loop l = length l.table ≡ states l.input.question.now

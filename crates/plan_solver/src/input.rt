@@ -5,20 +5,20 @@ ghost use Rattle.game_model.specs.Query.{states};
 ghost use Rattle.predecessors.specs.Lists.{ArePredecessors};
 ghost use Rattle.components.specs.Division.{states_of};
 
-use crate::approach::Approach;
+use crate::state_order::StateOrder;
 use components::Components;
 use game_model::{Marks, Question};
 use predecessors::Predecessors;
 
 /// A question comes with its components.
 #[derive(Drop)]
-pub struct Frame<'a, 'q> {
+pub struct Input<'a, 'q> {
     /// This is the question.
     pub question: &'a Question<'q>,
     /// These are the predecessors in its game.
     pub predecessors: &'a Predecessors,
     /// These are the states of positive value.
-    pub approach: &'a Approach,
+    pub state_order: &'a StateOrder,
     /// These are the components of the states whose value is neither 1 nor 0. Each other state is one of its own.
     pub components: &'a Components,
     /// These are the states of value 1.

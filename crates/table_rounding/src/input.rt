@@ -11,7 +11,7 @@ use predecessors::Predecessors;
 
 /// A component of a question comes with the local game that its values come from.
 #[derive(Drop)]
-pub struct Setting<'a, 'q> {
+pub struct Input<'a, 'q> {
     /// This is the question.
     pub question: &'a Question<'q>,
     /// These are the predecessors in its game.

@@ -16,7 +16,7 @@ const ANY: u32 = u32::MAX;
 
 /// The states of positive value join backward from the goals.
 #[derive(Drop)]
-pub struct Approach {
+pub struct StateOrder {
     /// These are the states, the nearest to a goal first.
     pub order: Vec<u32>,
     /// Each state joined by this choice, or has `NONE`.
@@ -29,33 +29,33 @@ pub struct Approach {
     ghost as_many: { vec_len next_choice ≡ vec_len toward },
 }
 
-impl Approach {
+impl StateOrder {
     /// Finds the states of positive value in the order in which they join. A state of the maximiser joins by its first
     /// choice that leads on, and one of the minimiser when all its choices do. The only error is that memory ran out.
     pub(crate) fn of_question(
         alloc: Global,
         question: &Question,
         predecessors: &Predecessors,
-    ) -> Result<Approach, OutOfMemory>
+    ) -> Result<StateOrder, OutOfMemory>
         requires { length predecessors.now ≡ states question.now }
     {
         let states = question.game().states();
-        let mut approach = Approach::of_goals(alloc, question)?;
+        let mut state_order = StateOrder::of_goals(alloc, question)?;
         for place in 0..states as usize {
-            let Some(state) = approach.order.get(place).copied() else {
+            let Some(state) = state_order.order.get(place).copied() else {
                 break;
             };
             if state < states {
                 for step in predecessors.of_state(state) {
-                    approach.follow(question, *step)?;
+                    state_order.follow(question, *step)?;
                 }
             }
         }
-        Ok(approach)
+        Ok(state_order)
     }
 
     /// Starts with only the goals.
-    fn of_goals(alloc: Global, question: &Question) -> Result<Approach, OutOfMemory> {
+    fn of_goals(alloc: Global, question: &Question) -> Result<StateOrder, OutOfMemory> {
         let states = question.game().states();
         let mut order = Vec::with_capacity(alloc, states as usize)?;
         let mut next_choice = vec![in alloc; 0u32; states as usize]?;
@@ -70,7 +70,7 @@ impl Approach {
             }
         }
         let choices = question.game().choices_below(states);
-        Ok(Approach {
+        Ok(StateOrder {
             order,
             toward: vec![in alloc; NONE; states as usize]?,
             next_choice,
