@@ -15,7 +15,7 @@ use crate::race::Raced;
 use crate::rounds::Rounds;
 use crate::sides::both_sides;
 use crate::tables::values_of_words;
-use crate::team::Team;
+use crate::parallel_sweep::ParallelSweep;
 use fixed_bellman::settled;
 use game_model::Question;
 use game_outside::{Gate, OutOfMemory};
@@ -65,7 +65,7 @@ pub fn bracket_of<R: Threads + Sync, F: Fn(u64, u64) -> bool, G: Gate + Sync>(
         predecessors: ending.predecessors,
         values: &base,
     };
-    let (lower, upper) = both_sides(made.team, alloc, &over, words, swapped_values, kept)?;
+    let (lower, upper) = both_sides(made.parallel, alloc, &over, words, swapped_values, kept)?;
     let plan = Plan {
         lower: lower.values,
         choices: lower.plan.choices,

@@ -10,7 +10,7 @@
 //! gives the same over lists of predecessors that the caller has. [`bracket_for`] gives it for a bound, with the zero
 //! set.
 //!
-//! The workers of a [`Team`] fill the tables of a guess: the table is the same for every number of them and every
+//! The workers of a [`ParallelSweep`] fill the tables of a guess: the table is the same for every number of them and every
 //! schedule. One worker needs no thread.
 #![tactic(auto)]
 
@@ -26,10 +26,10 @@ mod run;
 mod sides;
 mod stopping;
 mod tables;
-mod team;
+mod parallel_sweep;
 mod upper;
 
 pub use bounds::Bracket;
 pub use bracketed::{Bracketed, bracket_for};
 pub use run::{MOST_ROUNDS, bracket, bracket_over};
-pub use team::Team;
+pub use parallel_sweep::ParallelSweep;

@@ -92,12 +92,12 @@ fn run_rounds<
     requires zero { IsZeroSet rounds.now.ending.now.question.now rounds.now.ending.now.zero.now }
     requires posed { rounds.now.ending.now.question.now ≡ P.posed }
     requires game { C.posed.game ≡ P.posed.game }
-    requires lower { IsRacing P.posed 0 lower.pass lower.agenda }
-    requires swapped { IsRacing C.posed 0 swapped.pass swapped.agenda }
+    requires lower { IsRacing P.posed 0 lower.pass lower.dirty }
+    requires swapped { IsRacing C.posed 0 swapped.pass swapped.dirty }
     ensures { IfOk result (λ racers. HaveRaced P.posed C.posed rounds.now.ending.now.zero.now
         (bound_of rounds.now.ending.now.rule.now) rounds.now.ending.now.initial.now rounds.now.most racers) }
 {
-    let rt = rounds.team.rt;
+    let rt = rounds.parallel.rt;
     let lists = rounds.ending.predecessors;
     let mut witnesses = Witnesses::none();
     for turn in 0..rounds.most {
@@ -115,11 +115,11 @@ fn run_rounds<
             });
         }
         let kept = rounds.ending.asked_after(
-            rounds.team,
+            rounds.parallel,
             alloc,
             turn + 1,
-            &lower.agenda.read,
-            &swapped.agenda.read,
+            &lower.dirty.read,
+            &swapped.dirty.read,
             &mut witnesses,
         )?;
         if kept.is_some() {

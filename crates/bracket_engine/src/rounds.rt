@@ -4,7 +4,7 @@ ghost use Rattle.std.specs.Prelude.{◌≤◌};
 ghost use Rattle.round_workers.specs.Share.{most_workers};
 
 use crate::stopping::Ending;
-use crate::team::Team;
+use crate::parallel_sweep::ParallelSweep;
 use game_outside::Gate;
 use std::thread::Threads;
 
@@ -12,7 +12,7 @@ use std::thread::Threads;
 #[derive(Drop)]
 pub struct Rounds<'a, R: Threads + Sync, F: Fn(u64, u64) -> bool, G: Gate + Sync> {
     /// The team fills the tables of a guess.
-    pub team: &'a Team<'a, R>,
+    pub parallel: &'a ParallelSweep<'a, R>,
     /// This is the question, with what may end its run.
     pub ending: &'a Ending<'a, F>,
     /// At most this many rounds are made.

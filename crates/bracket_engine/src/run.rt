@@ -14,7 +14,7 @@ use crate::closing::bracket_of;
 use crate::race::race;
 use crate::rounds::Rounds;
 use crate::stopping::Ending;
-use crate::team::Team;
+use crate::parallel_sweep::ParallelSweep;
 use game_model::{Marks, Question};
 use game_outside::{Gate, OutOfMemory};
 use inductive_check::swap;
@@ -105,12 +105,12 @@ pub fn bracket_over<R: Threads + Sync, F: Fn(u64, u64) -> bool, G: Gate + Sync>(
         rule: stop,
         initial,
     };
-    let team = Team {
+    let parallel = ParallelSweep {
         rt,
         workers: busy_workers(question, workers, question.game().states()),
     };
     let made = Rounds {
-        team: &team,
+        parallel: &parallel,
         ending: &ending,
         most: rounds,
         workers,

@@ -11,7 +11,7 @@ ghost use Rattle.bracket_engine.specs.Stop.{AreUpperParts};
 use crate::base::Base;
 use crate::lower::lower_side;
 use crate::stopping::SettlingGuess;
-use crate::team::Team;
+use crate::parallel_sweep::ParallelSweep;
 use crate::upper::{UpperSide, upper_side};
 use game_outside::OutOfMemory;
 use lower_guess::LowerGuess;
@@ -23,7 +23,7 @@ use value_words::Words;
 /// makes the lower side while the others make the upper side. One worker makes the two sides in turn, and needs no
 /// thread.
 pub fn both_sides<R: Threads + Sync>(
-    team: &Team<'_, R>,
+    parallel: &ParallelSweep<'_, R>,
     alloc: Global,
     base: &Base<'_>,
     words: Words,
@@ -39,24 +39,24 @@ pub fn both_sides<R: Threads + Sync>(
     ensures upper { IfOk result (λ sides. IsUpperSide base.now.question.now base.now.zero.now
         (slice_index base.now.values.now) (slice_index swapped_values.items) kept sides.1) }
 {
-    if team.workers == 1 {
+    if parallel.workers == 1 {
         let lower = lower_side(alloc, base, words)?;
-        let upper = upper_side(team, alloc, base, swapped_values, kept)?;
+        let upper = upper_side(parallel, alloc, base, swapped_values, kept)?;
         return Ok((lower, upper));
     }
-    let others = Team {
-        rt: team.rt,
-        workers: team.workers - 1,
+    let others = ParallelSweep {
+        rt: parallel.rt,
+        workers: parallel.workers - 1,
     };
     let lower = LowerJob { alloc, base, words };
     let upper = UpperJob {
-        team: &others,
+        parallel: &others,
         alloc,
         base,
         swapped_values,
         kept,
     };
-    let (lower, upper) = run_both(team.rt, lower, upper);
+    let (lower, upper) = run_both(parallel.rt, lower, upper);
     let lower = lower?;
     let upper = upper?;
     Ok((lower, upper))
@@ -123,7 +123,7 @@ impl Job for LowerJob<'_> {
 /// This job makes the upper side.
 #[derive(Drop)]
 struct UpperJob<'a, R: Threads + Sync> {
-    team: &'a Team<'a, R>,
+    parallel: &'a ParallelSweep<'a, R>,
     alloc: Global,
     base: &'a Base<'a>,
     swapped_values: Vec<u64>,
@@ -142,12 +142,12 @@ impl<R: Threads + Sync> Job for UpperJob<'_, R> {
 
     fn run(self) -> Result<UpperSide, OutOfMemory> {
         let UpperJob {
-            team,
+            parallel,
             alloc,
             base,
             swapped_values,
             kept,
         } = self;
-        upper_side(team, alloc, base, swapped_values, kept)
+        upper_side(parallel, alloc, base, swapped_values, kept)
     }
 }

@@ -6,7 +6,7 @@ ghost use Rattle.game_model.specs.Limits.{unit};
 ghost use Rattle.game_model.specs.Dual.{IsZeroSet};
 ghost use Rattle.predecessors.specs.Lists.{ArePredecessors};
 
-use crate::team::Team;
+use crate::parallel_sweep::ParallelSweep;
 use game_model::{Marks, Question, UNIT};
 use game_outside::OutOfMemory;
 use predecessors::Predecessors;
@@ -52,7 +52,7 @@ impl<F: Fn(u64, u64) -> bool> Ending<'_, F> {
     /// could use it. The team fills the tables of the guess.
     pub fn asked_after<R: Threads + Sync>(
         &self,
-        team: &Team<'_, R>,
+        parallel: &ParallelSweep<'_, R>,
         alloc: Global,
         rounds: u32,
         lower: &[u64],
@@ -78,14 +78,14 @@ impl<F: Fn(u64, u64) -> bool> Ending<'_, F> {
         if !self.rule.may_settle() || !rounds.is_power_of_two() {
             return Ok(None);
         }
-        self.settling_guess(team, alloc, lower, swapped_values, witnesses)
+        self.settling_guess(parallel, alloc, lower, swapped_values, witnesses)
     }
 
     /// Returns the guess over the lower bounds if the guess and the swapped values settle the threshold at each initial
     /// state.
     fn settling_guess<R: Threads + Sync>(
         &self,
-        team: &Team<'_, R>,
+        parallel: &ParallelSweep<'_, R>,
         alloc: Global,
         lower: &[u64],
         swapped_values: &[u64],
@@ -105,7 +105,7 @@ impl<F: Fn(u64, u64) -> bool> Ending<'_, F> {
             (bound_of self.now.rule.now) self.now.initial.now (slice_index lower.now)
             (λ s. unit - slice_index swapped_values.now s)) }
     {
-        let guess = guess_with(team, alloc, self.question, self.zero, lower, witnesses)?;
+        let guess = guess_with(parallel, alloc, self.question, self.zero, lower, witnesses)?;
         if !self.settles(lower, swapped_values, &guess) {
             return Ok(None);
         }

@@ -8,7 +8,7 @@ ghost use Rattle.bracket_engine.specs.Stop.{AreUpperParts, IsKeptGuess, IsLeastG
 use crate::base::Base;
 use crate::stopping::SettlingGuess;
 use crate::tables::{complements, lesser};
-use crate::team::Team;
+use crate::parallel_sweep::ParallelSweep;
 use game_outside::OutOfMemory;
 use inductive_check::replies;
 use std::alloc::Global;
@@ -27,7 +27,7 @@ pub struct UpperSide {
 /// Makes the upper table, whose guess is over the base, and the replies to it. The team fills the tables of the guess.
 /// The swapped values are dropped after they are read.
 pub fn upper_side<R: Threads + Sync>(
-    team: &Team<'_, R>,
+    parallel: &ParallelSweep<'_, R>,
     alloc: Global,
     base: &Base<'_>,
     swapped_values: Vec<u64>,
@@ -38,7 +38,7 @@ pub fn upper_side<R: Threads + Sync>(
     ensures { IfOk result (IsUpperSide base.now.question.now base.now.zero.now (slice_index base.now.values.now)
         (slice_index swapped_values.items) kept) }
 {
-    let table = upper_table(team, alloc, base, swapped_values, kept)?;
+    let table = upper_table(parallel, alloc, base, swapped_values, kept)?;
     let replies = replies(alloc, base.question, &table)?;
     Ok(UpperSide { table, replies })
 }
@@ -46,7 +46,7 @@ pub fn upper_side<R: Threads + Sync>(
 // Returns the least of the unit less the swapped values, of the guess over the base, and of the guess that was kept, if
 // any.
 fn upper_table<R: Threads + Sync>(
-    team: &Team<'_, R>,
+    parallel: &ParallelSweep<'_, R>,
     alloc: Global,
     base: &Base<'_>,
     swapped_values: Vec<u64>,
@@ -59,14 +59,14 @@ fn upper_table<R: Threads + Sync>(
 {
     let unlost = complements(alloc, &swapped_values)?;
     drop(swapped_values);
-    let guessed = least_guess(team, alloc, base, kept)?;
+    let guessed = least_guess(parallel, alloc, base, kept)?;
     lesser(alloc, &unlost, &guessed)
 }
 
 // Returns the guess over the base, or the lesser of it and the guess that was kept, if any. If both are over the same
 // lower bounds, they are the same guess.
 fn least_guess<R: Threads + Sync>(
-    team: &Team<'_, R>,
+    parallel: &ParallelSweep<'_, R>,
     alloc: Global,
     base: &Base<'_>,
     kept: Option<SettlingGuess>,
@@ -86,11 +86,11 @@ fn least_guess<R: Threads + Sync>(
         },
     ) = kept
     else {
-        return guess_with(team, alloc, question, zero, values, &mut Witnesses::none());
+        return guess_with(parallel, alloc, question, zero, values, &mut Witnesses::none());
     };
     if over.as_slice() == values {
         return Ok(earlier);
     }
-    let guessed = guess_with(team, alloc, question, zero, values, &mut Witnesses::none())?;
+    let guessed = guess_with(parallel, alloc, question, zero, values, &mut Witnesses::none())?;
     lesser(alloc, &guessed, &earlier)
 }

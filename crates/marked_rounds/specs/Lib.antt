@@ -1,2 +1,2 @@
-pub mod Agenda
+pub mod DirtySet
 pub mod Rounds

@@ -6,10 +6,10 @@ ghost use Rattle.game_model.specs.Rounded.{down_step, IsSettled};
 ghost use Rattle.round_workers.specs.Share.{most_workers};
 ghost use Rattle.predecessors.specs.Lists.{ArePredecessors};
 ghost use Rattle.value_words.specs.Passes.{IsOf, Grew, seen_by, won_by, parts_of};
-ghost use Rattle.marked_rounds.specs.Agenda.{read_of, IsAgenda};
+ghost use Rattle.marked_rounds.specs.DirtySet.{read_of, IsDirtySet};
 ghost use Rattle.marked_rounds.specs.Rounds.{IsRacing, IsClosed};
 
-use crate::agenda::{Agenda, mark_again, read_again};
+use crate::dirty::{DirtySet, mark_again, read_again};
 use game_model::Question;
 use game_outside::{Gate, OutOfMemory};
 use predecessors::Predecessors;
@@ -29,11 +29,11 @@ pub struct Runner<'q, P: Posing> {
     /// This is what was seen of the words.
     pub pass: Pass<P>,
     /// These are the states to update.
-    pub agenda: Agenda,
+    pub dirty: DirtySet,
     // This many values changed in the last round. It is none if there was no round.
     changed: Option<u32>,
     ghost of: { IsOf table pass },
-    ghost ready: { IsAgenda P.posed agenda (seen_by pass) },
+    ghost ready: { IsDirtySet P.posed dirty (seen_by pass) },
 }
 
 /// Opens the words. All states are to be updated.
@@ -42,15 +42,15 @@ pub fn open<'q, P: Posing>(
     question: &'q Question<'q>,
 ) -> Result<Runner<'q, P>, OutOfMemory>
     requires { question.now ≡ P.posed }
-    ensures { IfOk result (λ runner. IsRacing P.posed 0 runner.pass runner.agenda) }
+    ensures { IfOk result (λ runner. IsRacing P.posed 0 runner.pass runner.dirty) }
 {
     question.known();
-    let agenda = Agenda::open(alloc, question)?;
+    let dirty = DirtySet::open(alloc, question)?;
     let (table, pass) = ValueTable::<P>::start(alloc, question)?;
     Ok(Runner {
         table,
         pass,
-        agenda,
+        dirty,
         changed: None,
     })
 }
@@ -66,25 +66,25 @@ pub fn one_round<'q, R: Threads + Sync, P: Posing + Send + Sync, G: Gate + Sync>
 ) -> (Runner<'q, P>, bool)
     requires predecessors { ArePredecessors P.posed.game predecessors.now }
     requires workers { (1 ≤ workers) × (workers ≤ most_workers) }
-    ensures racing { (r : ℕ) → IsRacing P.posed r runner.entry.pass runner.entry.agenda
-        → IsRacing P.posed (r + 1) result.0.pass result.0.agenda }
-    ensures settled { result.1 ≡ false → IsSettled P.posed (read_of result.0.agenda) }
+    ensures racing { (r : ℕ) → IsRacing P.posed r runner.entry.pass runner.entry.dirty
+        → IsRacing P.posed (r + 1) result.0.pass result.0.dirty }
+    ensures settled { result.1 ≡ false → IsSettled P.posed (read_of result.0.dirty) }
 {
     let Runner {
         table,
         pass,
-        mut agenda,
+        mut dirty,
         changed,
     } = runner;
     let used = match changed {
         Some(changed) => busy_workers(table.question(), workers, changed),
         None => workers,
     };
-    let (pass, changed) = sweep(rt, &table, predecessors, pass, &mut agenda, used, gate);
+    let (pass, changed) = sweep(rt, &table, predecessors, pass, &mut dirty, used, gate);
     let runner = Runner {
         table,
         pass,
-        agenda,
+        dirty,
         changed: Some(changed),
     };
     (runner, changed > 0)
@@ -92,13 +92,13 @@ pub fn one_round<'q, R: Threads + Sync, P: Posing + Send + Sync, G: Gate + Sync>
 
 /// Returns the closed words: those of a race of as many rounds. They are settled if what was read is.
 pub fn close<P: Posing>(alloc: Global, runner: Runner<'_, P>) -> Result<Words, OutOfMemory>
-    ensures { (r : ℕ) → IsRacing P.posed r runner.entry.pass runner.entry.agenda
-        → IfOk result (λ words. IsClosed P.posed words r (read_of runner.entry.agenda)) }
+    ensures { (r : ℕ) → IsRacing P.posed r runner.entry.pass runner.entry.dirty
+        → IfOk result (λ words. IsClosed P.posed words r (read_of runner.entry.dirty)) }
 {
     let Runner {
         table,
         pass,
-        agenda: _,
+        dirty: _,
         changed: _,
     } = runner;
     let words = table.close(alloc, pass)?;
@@ -111,21 +111,21 @@ fn sweep<R: Threads + Sync, P: Posing + Send + Sync, G: Gate + Sync>(
     table: &ValueTable<'_, P>,
     predecessors: &Predecessors,
     pass: Pass<P>,
-    agenda: &mut Agenda,
+    dirty: &mut DirtySet,
     workers: u32,
     gate: &G,
 ) -> (Pass<P>, u32)
     requires pass { IsOf table.now pass }
     requires predecessors { ArePredecessors P.posed.game predecessors.now }
-    requires agenda { IsAgenda P.posed agenda.old (seen_by pass) }
+    requires dirty { IsDirtySet P.posed dirty.old (seen_by pass) }
     requires workers { (1 ≤ workers) × (workers ≤ most_workers) }
     ensures grew { Grew pass result.0 }
     ensures won { won_by result.0 ≤ won_by pass + states P.posed }
     ensures parts { workers ≤ parts_of pass → parts_of result.0 ≡ parts_of pass }
-    ensures agenda { IsAgenda P.posed agenda.new (seen_by result.0) }
+    ensures dirty { IsDirtySet P.posed dirty.new (seen_by result.0) }
     // At each state, marked or not, what is read now is at least the down step of what was read before.
-    ensures step { (s : ℕ) → s < states P.posed → down_step P.posed (read_of agenda.old) s ≤ read_of agenda.new s }
-    ensures settled { result.1 ≡ 0 → IsSettled P.posed (read_of agenda.new) }
+    ensures step { (s : ℕ) → s < states P.posed → down_step P.posed (read_of dirty.old) s ≤ read_of dirty.new s }
+    ensures settled { result.1 ≡ 0 → IsSettled P.posed (read_of dirty.new) }
 {
     let Rounded {
         mut pass,
@@ -135,17 +135,17 @@ fn sweep<R: Threads + Sync, P: Posing + Send + Sync, G: Gate + Sync>(
         table,
         predecessors,
         pass,
-        &agenda.marks,
-        &mut agenda.more,
-        agenda.whole,
+        &dirty.marks,
+        &mut dirty.more,
+        dirty.whole,
         workers,
         gate,
     );
-    let changed = read_again(table, &mut pass, agenda);
+    let changed = read_again(table, &mut pass, dirty);
     if changed == 0 {
         return (pass, 0);
     }
-    mark_again(table.question().game(), predecessors, agenda, changed);
+    mark_again(table.question().game(), predecessors, dirty, changed);
     (pass, changed)
 }
 

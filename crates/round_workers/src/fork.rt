@@ -6,9 +6,9 @@ ghost use Rattle.game_model.specs.Rounded.{down_step};
 ghost use Rattle.value_words.specs.Passes.{IsOf, Grew, seen_by, won_by, parts_of};
 ghost use Rattle.predecessors.specs.Marks.{IsMarked};
 ghost use Rattle.round_workers.specs.Share.{IsSwept, most_workers};
-ghost use Rattle.round_workers.specs.inside.Crews.{IsCrew, AreHalves};
+ghost use Rattle.round_workers.specs.inside.WorkerRanges.{IsWorkerRange, AreHalves};
 
-use crate::crew::Crew;
+use crate::worker_range::WorkerRange;
 use crate::sweep::{Rounded, Task, meet, sweep};
 use game_outside::Gate;
 use predecessors::Predecessors;
@@ -50,7 +50,7 @@ pub fn round<R: Threads + Sync, P: Posing + Send + Sync, G: Gate + Sync>(
     ensures few { result.raises ≤ states P.posed }
     ensures parts { workers ≤ parts_of pass → parts_of result.pass ≡ parts_of pass }
 {
-    let crew = Crew::all(table.question().game(), workers);
+    let crew = WorkerRange::all(table.question().game(), workers);
     let task = Task {
         table,
         predecessors,
@@ -67,11 +67,11 @@ fn fork<R: Threads + Sync, P: Posing + Send + Sync, G: Gate + Sync>(
     task: &Task<'_, P, G>,
     mut pass: Pass<P>,
     more: &mut [bool],
-    crew: Crew,
+    crew: WorkerRange,
 ) -> Rounded<P>
     requires pass { IsOf task.now.table.now pass }
     requires more { crew.low + length more.old ≡ crew.high }
-    requires crew { IsCrew P.posed.game crew }
+    requires crew { IsWorkerRange P.posed.game crew }
     ensures { IsSwept P.posed task.now.marks.now
         (crew.last - crew.first) crew.low crew.high pass.seat result.pass.seat result.raises }
 {
@@ -85,13 +85,13 @@ fn fork<R: Threads + Sync, P: Posing + Send + Sync, G: Gate + Sync>(
         rt,
         move || -> Rounded<P>
             requires { IsSync R.row × IsSend P.row × IsSync P.row × IsSync G.row × IsOf task.now.table.now pass
-                × (front.low + length mine.now ≡ front.high) × IsCrew P.posed.game front }
+                × (front.low + length mine.now ≡ front.high) × IsWorkerRange P.posed.game front }
             ensures { IsSwept P.posed task.entry.now.marks.now
                 (front.last - front.first) front.low front.high pass.seat result.pass.seat result.raises }
         { fork(rt, task, pass, mine, front) },
         move || -> Rounded<P>
             requires { IsSync R.row × IsSend P.row × IsSync P.row × IsSync G.row × IsOf task.now.table.now other
-                × (back.low + length others.now ≡ back.high) × IsCrew P.posed.game back }
+                × (back.low + length others.now ≡ back.high) × IsWorkerRange P.posed.game back }
             ensures { IsSwept P.posed task.entry.now.marks.now
                 (back.last - back.first) back.low back.high other.seat result.pass.seat result.raises }
         { fork(rt, task, other, others, back) },
@@ -100,8 +100,8 @@ fn fork<R: Threads + Sync, P: Posing + Send + Sync, G: Gate + Sync>(
 }
 
 /// Returns the halves of a crew of at least two workers.
-fn halves<P: Posing>(table: &ValueTable<'_, P>, crew: Crew) -> (Crew, Crew)
-    requires crew { IsCrew P.posed.game crew }
+fn halves<P: Posing>(table: &ValueTable<'_, P>, crew: WorkerRange) -> (WorkerRange, WorkerRange)
+    requires crew { IsWorkerRange P.posed.game crew }
     requires some { 2 ≤ crew.last - crew.first }
     ensures { AreHalves P.posed.game crew result.0 result.1 }
 {

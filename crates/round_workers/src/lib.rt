@@ -8,7 +8,7 @@
 //! which worker raised what, or that two of them run at the same time.
 #![tactic(auto)]
 
-mod crew;
+mod worker_range;
 mod fork;
 pub mod laws;
 mod marks;

@@ -6,7 +6,7 @@ ghost use Rattle.drawn_game.specs.Limits.{least_states, most_seed};
 ghost use Rattle.game_model.specs.Query.{states};
 
 use crate::counted::guess_by;
-use bracket_engine::Team;
+use bracket_engine::ParallelSweep;
 use drawn_game::draw_game;
 use game_model::{Game, Question, Side, UNIT};
 use sample_games::expectations::same;
@@ -30,7 +30,7 @@ fn teams_agree<R: Threads + Sync>(
     let zero = zero_set(alloc, question)?;
     let alone = guess_by(&Alone {}, alloc, question, &zero, lower)?;
     for workers in [1, 2, 3, 7] {
-        let found = guess_by(&Team { rt, workers }, alloc, question, &zero, lower)?;
+        let found = guess_by(&ParallelSweep { rt, workers }, alloc, question, &zero, lower)?;
         same(
             workers,
             (found.0.as_slice(), found.1),

@@ -5,7 +5,7 @@ use Rattle.game_model.specs.Rounded.{IsSettled}
 use Rattle.step_core.specs.Word.{value_at}
 use Rattle.formula_reader.specs.declared.formula.Bound.{Bound}
 use Rattle.verdicts.specs.Verdict.{is_asking}
-use Rattle.marked_rounds.specs.Agenda.{read_of}
+use Rattle.marked_rounds.specs.DirtySet.{read_of}
 use Rattle.marked_rounds.specs.Rounds.{IsRaced, IsRacing}
 use Rattle.bracket_engine.specs.declared.race.Raced.{Raced}
 use Rattle.bracket_engine.specs.declared.race.Racers.{Racers}
@@ -26,10 +26,10 @@ pub record IsEnd (q swapped_question : Query) (zero : List Bool) (bound : Bound)
 -- Two races made equally many rounds, and the values that were read last show that their rounds are over.
 pub record HaveRaced {P C : Type 0} {h i : _} (q swapped_question : Query) (zero : List Bool) (bound : Bound)
     (initial : List ℕ) (asked : ℕ) (racers : Racers P C h i) : Type 0 where
-  pub lower : IsRacing q racers.rounds racers.lower.pass racers.lower.agenda
-  pub swapped : IsRacing swapped_question racers.rounds racers.swapped.pass racers.swapped.agenda
-  pub end : IsEnd q swapped_question zero bound initial asked (read_of racers.lower.agenda)
-      (read_of racers.swapped.agenda) racers.rounds racers.quiet racers.kept
+  pub lower : IsRacing q racers.rounds racers.lower.pass racers.lower.dirty
+  pub swapped : IsRacing swapped_question racers.rounds racers.swapped.pass racers.swapped.dirty
+  pub end : IsEnd q swapped_question zero bound initial asked (read_of racers.lower.dirty)
+      (read_of racers.swapped.dirty) racers.rounds racers.quiet racers.kept
 
 -- These are the closed words of two races whose rounds are over.
 pub record AreOver (q swapped_question : Query) (zero : List Bool) (bound : Bound) (initial : List ℕ) (asked : ℕ)

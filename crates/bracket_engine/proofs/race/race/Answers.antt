@@ -4,7 +4,7 @@ use Rattle.game_model.specs.Query.{Query, states}
 use Rattle.game_model.specs.Rounded.{IsBelow}
 use Rattle.step_core.specs.Word.{value_at}
 use Rattle.verdicts.specs.Stop.{bound_of}
-use Rattle.marked_rounds.specs.Agenda.{read_of}
+use Rattle.marked_rounds.specs.DirtySet.{read_of}
 use Rattle.marked_rounds.specs.Rounds.{IsClosed}
 use Rattle.bracket_engine.proofs.Uppers.{IsSettlingGuess-raised}
 use Rattle.bracket_engine.proofs.race.race.Goals as goal
@@ -15,8 +15,8 @@ returns g c =
     let ending = c.args.rounds.now.ending.now in
     let racers = c.in_ok-racers.racers in
     let racing = c.in_ok-racers.ensures in
-    let read = read_of racers.lower.agenda in
-    let swapped_read = read_of racers.swapped.agenda in
+    let read = read_of racers.lower.dirty in
+    let swapped_read = read_of racers.swapped.dirty in
     let words = c.in_ok-words.words in
     let swapped_words = c.in_ok-swapped_words.swapped_words in
     let one : IsClosed q words racers.rounds read = c.in_ok-words.ensures racers.rounds racing.lower in

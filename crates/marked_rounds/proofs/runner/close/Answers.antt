@@ -4,7 +4,7 @@ use Rattle.game_model.specs.Rounded.{IsBelow}
 use Rattle.step_core.specs.Word.{value_at}
 use Rattle.step_core.proofs.Sights.{Sees-below}
 use Rattle.value_words.specs.Passes.{won_by}
-use Rattle.marked_rounds.specs.Agenda.{read_of}
+use Rattle.marked_rounds.specs.DirtySet.{read_of}
 use Rattle.marked_rounds.proofs.Racing.{swept-opens, within-more, closed-settled}
 use Rattle.marked_rounds.proofs.runner.close.Goals as goal
 
@@ -13,7 +13,7 @@ returns g c r racing =
     let q = g.P.Posing.posed in
     let h : IsQuery q = c.args.runner.table.posed in
     let words : List ℕ = c.in_ok-words.words in
-    let read = read_of c.args.runner.agenda in
+    let read = read_of c.args.runner.dirty in
     let seen : List ℕ = c.args.runner.pass.seat.me.0.seen in
     let closed = c.in_ok-words.ensures in
     let below : IsBelow q read (value_at words) =

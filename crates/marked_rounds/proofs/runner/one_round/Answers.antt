@@ -1,5 +1,5 @@
 use Rattle.std.proofs.Common.{◌≤◌, ◌∙◌, arith}
-use Rattle.marked_rounds.specs.Agenda.{read_of}
+use Rattle.marked_rounds.specs.DirtySet.{read_of}
 use Rattle.marked_rounds.proofs.Racing.{swept-more}
 use Rattle.marked_rounds.proofs.runner.one_round.Goals as goal
 use Rattle.marked_rounds.proofs.runner.one_round.Goals.{in-Some, in-None}
@@ -14,6 +14,6 @@ returns-clause-racing g c r racing =
     record {
       whole = e.parts (omega (arith, used, racing.whole)) ∙ racing.whole;
       won = omega (arith, racing.won, e.won);
-      swept = swept-more g.P.Posing.posed r (read_of c.args.runner.agenda)
-          (read_of c.sweep-pass.new.agenda) c.args.runner.table.posed racing.swept e.step;
+      swept = swept-more g.P.Posing.posed r (read_of c.args.runner.dirty)
+          (read_of c.sweep-pass.new.dirty) c.args.runner.table.posed racing.swept e.step;
     }

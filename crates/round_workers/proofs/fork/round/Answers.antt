@@ -1,12 +1,12 @@
 use Rattle.std.proofs.Common.{◌≡◌, ap, ◌∙◌, List, length, subst, arith}
 use Rattle.game_model.specs.Game.{Distribution}
 use Rattle.game_model.specs.Query.{Query, states}
-use Rattle.round_workers.specs.inside.Crews.{IsCrew}
+use Rattle.round_workers.specs.inside.WorkerRanges.{IsWorkerRange}
 use Rattle.round_workers.proofs.fork.round.Goals as goal
 
 pub fork-requires-clause-crew : goal.fork-requires-clause-crew
 fork-requires-clause-crew g c κs within =
-    subst (λ (game : List (List Distribution)). IsCrew game c.all-crew.result)
+    subst (λ (game : List (List Distribution)). IsWorkerRange game c.all-crew.result)
     (c.game.ensures ∙ ap (λ (q : Query). q.game) c.question.ensures) c.all-crew.ensures.crew
 
 pub returns-clause-step : goal.returns-clause-step

@@ -8,7 +8,7 @@ ghost use Rattle.predecessors.specs.Lists.{ArePredecessors};
 ghost use Rattle.predecessors.specs.Marks.{IsMarked};
 ghost use Rattle.round_workers.specs.Marks.{IsNextMark};
 ghost use Rattle.value_words.specs.Passes.{IsOf, Looked, seen_by};
-ghost use Rattle.marked_rounds.specs.Agenda.{read_of, IsSized, IsStateRead, IsElsewhere, IsReadAgain, AreMarkedFor};
+ghost use Rattle.marked_rounds.specs.DirtySet.{read_of, IsSized, IsStateRead, IsElsewhere, IsReadAgain, AreMarkedFor};
 
 use fixed_bellman::Values;
 use game_model::{Game, Question, UNIT};
@@ -21,7 +21,7 @@ use value_words::{Pass, Posing, ValueTable};
 /// An agenda has the values that were read last, and the states to update. A state without a mark is quiet: its down
 /// step over these values is at most its own value.
 #[derive(Drop)]
-pub struct Agenda {
+pub struct DirtySet {
     /// These are the values, by state.
     pub read: Vec<u64>,
     /// The next round updates the states with these marks.
@@ -32,13 +32,13 @@ pub struct Agenda {
     pub more: Vec<bool>,
 }
 
-impl Agenda {
+impl DirtySet {
     /// Makes the first agenda: all states are to be updated, and the values are those of the opening table.
-    pub fn open(alloc: Global, question: &Question) -> Result<Agenda, OutOfMemory>
-        ensures sized { IfOk result (λ agenda. IsSized question.now agenda) }
-        ensures opens { IfOk result (λ agenda. (s : ℕ) → s < states question.now
-            → read_of agenda s ≡ opening question.now s) }
-        ensures marked { IfOk result (λ agenda. (s : ℕ) → s < states question.now → IsMarked agenda.marks.items s) }
+    pub fn open(alloc: Global, question: &Question) -> Result<DirtySet, OutOfMemory>
+        ensures sized { IfOk result (λ dirty. IsSized question.now dirty) }
+        ensures opens { IfOk result (λ dirty. (s : ℕ) → s < states question.now
+            → read_of dirty s ≡ opening question.now s) }
+        ensures marked { IfOk result (λ dirty. (s : ℕ) → s < states question.now → IsMarked dirty.marks.items s) }
     {
         let states = question.game().states();
         let marks = vec![in alloc; true; states as usize]?;
@@ -47,7 +47,7 @@ impl Agenda {
         for state in 0..states {
             read.push(if question.is_goal(state) { UNIT } else { 0 })?;
         }
-        Ok(Agenda {
+        Ok(DirtySet {
             read,
             marks,
             whole: true,
@@ -71,19 +71,19 @@ fn mark_from(marks: &[bool], from: u32) -> u32
 }
 
 /// Takes the marks off. The states that were updated have the second mark then.
-fn take_marks(agenda: &mut Agenda)
-    requires { length agenda.old.more.items ≡ length agenda.old.marks.items }
-    ensures read { agenda.new.read.items ≡ agenda.old.read.items }
-    ensures marks { length agenda.new.marks.items ≡ length agenda.old.marks.items }
-    ensures more { length agenda.new.more.items ≡ length agenda.old.more.items }
-    ensures marked { (s : ℕ) → IsMarked agenda.old.marks.items s → IsMarked agenda.new.more.items s }
-    ensures part { agenda.new.whole ≡ false }
+fn take_marks(dirty: &mut DirtySet)
+    requires { length dirty.old.more.items ≡ length dirty.old.marks.items }
+    ensures read { dirty.new.read.items ≡ dirty.old.read.items }
+    ensures marks { length dirty.new.marks.items ≡ length dirty.old.marks.items }
+    ensures more { length dirty.new.more.items ≡ length dirty.old.more.items }
+    ensures marked { (s : ℕ) → IsMarked dirty.old.marks.items s → IsMarked dirty.new.more.items s }
+    ensures part { dirty.new.whole ≡ false }
 {
-    for place in 0..agenda.more.len() {
-        agenda.more[place] |= agenda.marks[place];
+    for place in 0..dirty.more.len() {
+        dirty.more[place] |= dirty.marks[place];
     }
-    agenda.marks.fill(false);
-    agenda.whole = false;
+    dirty.marks.fill(false);
+    dirty.whole = false;
 }
 
 /// Reads the states that were updated, and says how many values changed. The states that changed have the second mark
@@ -91,42 +91,42 @@ fn take_marks(agenda: &mut Agenda)
 pub fn read_again<P: Posing>(
     table: &ValueTable<'_, P>,
     pass: &mut Pass<P>,
-    agenda: &mut Agenda,
+    dirty: &mut DirtySet,
 ) -> u32
     requires pass { IsOf table.now pass.old }
-    requires sized { IsSized P.posed agenda.old }
-    requires below { (s : ℕ) → s < states P.posed → read_of agenda.old s ≤ seen_by pass.old s }
+    requires sized { IsSized P.posed dirty.old }
+    requires below { (s : ℕ) → s < states P.posed → read_of dirty.old s ≤ seen_by pass.old s }
     ensures looked { Looked pass.old pass.new }
-    ensures sized { IsSized P.posed agenda.new }
-    ensures again { IsReadAgain P.posed agenda.old agenda.new (seen_by pass.old) (seen_by pass.new) }
-    ensures none { result ≡ 0 → (s : ℕ) → s < states P.posed → slice_index_or agenda.new.more.items s false ≡ false }
-    ensures part { agenda.new.whole ≡ false }
+    ensures sized { IsSized P.posed dirty.new }
+    ensures again { IsReadAgain P.posed dirty.old dirty.new (seen_by pass.old) (seen_by pass.new) }
+    ensures none { result ≡ 0 → (s : ℕ) → s < states P.posed → slice_index_or dirty.new.more.items s false ≡ false }
+    ensures part { dirty.new.whole ≡ false }
 {
-    take_marks(agenda);
-    read_marked(table, pass, agenda)
+    take_marks(dirty);
+    read_marked(table, pass, dirty)
 }
 
 /// Reads the states with a second mark, and says how many values changed. The states that changed keep it, and the
 /// others lose it.
-fn read_marked<P: Posing>(table: &ValueTable<'_, P>, pass: &mut Pass<P>, agenda: &mut Agenda) -> u32
+fn read_marked<P: Posing>(table: &ValueTable<'_, P>, pass: &mut Pass<P>, dirty: &mut DirtySet) -> u32
     requires pass { IsOf table.now pass.old }
-    requires sized { IsSized P.posed agenda.old }
-    requires below { (s : ℕ) → s < states P.posed → read_of agenda.old s ≤ seen_by pass.old s }
+    requires sized { IsSized P.posed dirty.old }
+    requires below { (s : ℕ) → s < states P.posed → read_of dirty.old s ≤ seen_by pass.old s }
     ensures looked { Looked pass.old pass.new }
-    ensures sized { IsSized P.posed agenda.new }
+    ensures sized { IsSized P.posed dirty.new }
     ensures again { (s : ℕ) → s < states P.posed
-        → IsStateRead s agenda.old agenda.new (seen_by pass.old) (seen_by pass.new) }
-    ensures none { result ≡ 0 → (s : ℕ) → s < states P.posed → slice_index_or agenda.new.more.items s false ≡ false }
-    ensures whole { agenda.new.whole ≡ agenda.old.whole }
+        → IsStateRead s dirty.old dirty.new (seen_by pass.old) (seen_by pass.new) }
+    ensures none { result ≡ 0 → (s : ℕ) → s < states P.posed → slice_index_or dirty.new.more.items s false ≡ false }
+    ensures whole { dirty.new.whole ≡ dirty.old.whole }
 {
     let states = table.question().game().states();
     let mut changed: u32 = 0;
-    let mut state = mark_from(&agenda.more, 0);
+    let mut state = mark_from(&dirty.more, 0);
     while state < states {
-        if read_state(table, pass, agenda, state) {
+        if read_state(table, pass, dirty, state) {
             changed = changed.saturating_add(1);
         }
-        state = mark_from(&agenda.more, state + 1);
+        state = mark_from(&dirty.more, state + 1);
     }
     changed
 }
@@ -135,57 +135,57 @@ fn read_marked<P: Posing>(table: &ValueTable<'_, P>, pass: &mut Pass<P>, agenda:
 fn read_state<P: Posing>(
     table: &ValueTable<'_, P>,
     pass: &mut Pass<P>,
-    agenda: &mut Agenda,
+    dirty: &mut DirtySet,
     state: u32,
 ) -> bool
     requires pass { IsOf table.now pass.old }
     requires state { state < states P.posed }
-    requires sized { IsSized P.posed agenda.old }
-    requires below { read_of agenda.old state ≤ seen_by pass.old state }
+    requires sized { IsSized P.posed dirty.old }
+    requires below { read_of dirty.old state ≤ seen_by pass.old state }
     ensures looked { Looked pass.old pass.new }
-    ensures sized { IsSized P.posed agenda.new }
-    ensures read { IsStateRead state agenda.old agenda.new (seen_by pass.old) (seen_by pass.new) }
-    ensures elsewhere { IsElsewhere state agenda.old agenda.new }
-    ensures changed { result ≡ slice_index_or agenda.new.more.items state false }
-    ensures whole { agenda.new.whole ≡ agenda.old.whole }
+    ensures sized { IsSized P.posed dirty.new }
+    ensures read { IsStateRead state dirty.old dirty.new (seen_by pass.old) (seen_by pass.new) }
+    ensures elsewhere { IsElsewhere state dirty.old dirty.new }
+    ensures changed { result ≡ slice_index_or dirty.new.more.items state false }
+    ensures whole { dirty.new.whole ≡ dirty.old.whole }
 {
     let place = state as usize;
     let value = table.value(pass, state);
-    let changed = value != agenda.read[place];
-    agenda.read[place] = value;
-    agenda.more[place] = changed;
+    let changed = value != dirty.read[place];
+    dirty.read[place] = value;
+    dirty.more[place] = changed;
     changed
 }
 
 /// Marks the predecessors of the states that changed, or all states if most of them changed.
-pub fn mark_again(game: &Game, predecessors: &Predecessors, agenda: &mut Agenda, changed: u32)
+pub fn mark_again(game: &Game, predecessors: &Predecessors, dirty: &mut DirtySet, changed: u32)
     requires predecessors { ArePredecessors game.now predecessors.now }
-    requires marks { length agenda.old.marks.items ≡ length game.now }
-    requires more { length agenda.old.more.items ≡ length game.now }
-    requires part { agenda.old.whole ≡ false }
-    ensures read { agenda.new.read.items ≡ agenda.old.read.items }
-    ensures marks { length agenda.new.marks.items ≡ length game.now }
-    ensures more { length agenda.new.more.items ≡ length game.now }
-    ensures marked { AreMarkedFor game.now agenda.old.more.items agenda.new.marks.items }
-    ensures whole { agenda.new.whole ≡ true → (s : ℕ) → s < length game.now → IsMarked agenda.new.marks.items s }
+    requires marks { length dirty.old.marks.items ≡ length game.now }
+    requires more { length dirty.old.more.items ≡ length game.now }
+    requires part { dirty.old.whole ≡ false }
+    ensures read { dirty.new.read.items ≡ dirty.old.read.items }
+    ensures marks { length dirty.new.marks.items ≡ length game.now }
+    ensures more { length dirty.new.more.items ≡ length game.now }
+    ensures marked { AreMarkedFor game.now dirty.old.more.items dirty.new.marks.items }
+    ensures whole { dirty.new.whole ≡ true → (s : ℕ) → s < length game.now → IsMarked dirty.new.marks.items s }
 {
     if changed > game.states() / 2 {
-        mark_all(agenda);
+        mark_all(dirty);
     } else {
-        mark_changed(game, predecessors, &mut agenda.more, &mut agenda.marks);
+        mark_changed(game, predecessors, &mut dirty.more, &mut dirty.marks);
     }
 }
 
 /// Marks all states.
-fn mark_all(agenda: &mut Agenda)
-    ensures read { agenda.new.read.items ≡ agenda.old.read.items }
-    ensures marks { length agenda.new.marks.items ≡ length agenda.old.marks.items }
-    ensures more { length agenda.new.more.items ≡ length agenda.old.more.items }
-    ensures marked { (s : ℕ) → s < length agenda.old.marks.items → IsMarked agenda.new.marks.items s }
+fn mark_all(dirty: &mut DirtySet)
+    ensures read { dirty.new.read.items ≡ dirty.old.read.items }
+    ensures marks { length dirty.new.marks.items ≡ length dirty.old.marks.items }
+    ensures more { length dirty.new.more.items ≡ length dirty.old.more.items }
+    ensures marked { (s : ℕ) → s < length dirty.old.marks.items → IsMarked dirty.new.marks.items s }
 {
-    agenda.marks.fill(true);
-    agenda.whole = true;
-    agenda.more.fill(false);
+    dirty.marks.fill(true);
+    dirty.whole = true;
+    dirty.more.fill(false);
 }
 
 /// Marks the predecessors of the states that changed, and takes the second marks of these states off.

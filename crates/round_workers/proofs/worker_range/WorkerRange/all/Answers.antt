@@ -1,7 +1,7 @@
 use Rattle.std.proofs.Common.{ℕ, sym, subst}
 use Rattle.round_workers.specs.Share.{BeginsBlock}
 use Rattle.round_workers.proofs.Parts.{first-begins, last-ends}
-use Rattle.round_workers.proofs.crew.Crew.all.Goals as goal
+use Rattle.round_workers.proofs.worker_range.WorkerRange.all.Goals as goal
 
 pub returns-clause-crew : goal.returns-clause-crew
 returns-clause-crew c = record {

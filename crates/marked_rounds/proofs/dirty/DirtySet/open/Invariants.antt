@@ -1,7 +1,7 @@
 use Rattle.std.proofs.Common.{◌≡◌, ℕ, ◌<◌, length}
 use Rattle.std.specs.Prelude.{slice_index}
 use Rattle.game_model.specs.Rounded.{opening}
-use Rattle.marked_rounds.proofs.agenda.Agenda.open.Given as goal
+use Rattle.marked_rounds.proofs.dirty.DirtySet.open.Given as goal
 
 abbrev pub invariant-loop-state : goal.invariant-loop-state
 invariant-loop-state l = record {

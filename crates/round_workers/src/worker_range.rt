@@ -9,7 +9,7 @@ use game_model::Game;
 /// A crew is a row of the `workers` of a round: from `first` up to and not including `last`. Their states go from `low`
 /// up to and not including `high`.
 #[derive(Clone, Copy)]
-pub struct Crew {
+pub struct WorkerRange {
     pub workers: u32,
     pub first: u32,
     pub last: u32,
@@ -20,20 +20,20 @@ pub struct Crew {
     ghost few: { workers ≤ most_workers },
 }
 
-impl Crew {
+impl WorkerRange {
     ghost use Rattle.std.specs.Prelude.{◌≡◌, ◌-◌, length};
-    ghost use Rattle.round_workers.specs.inside.Crews.{IsCrew, AreHalves};
+    ghost use Rattle.round_workers.specs.inside.WorkerRanges.{IsWorkerRange, AreHalves};
 
     /// Makes the crew of all workers of a round.
-    pub fn all(game: &Game, workers: u32) -> Crew
+    pub fn all(game: &Game, workers: u32) -> WorkerRange
         requires { (1 ≤ workers) × (workers ≤ most_workers) }
-        ensures crew { IsCrew game.now result }
+        ensures crew { IsWorkerRange game.now result }
         ensures count { result.last - result.first ≡ workers }
         ensures low { result.low ≡ 0 }
         ensures high { result.high ≡ length game.now }
     {
         game.known();
-        Crew {
+        WorkerRange {
             workers,
             first: 0,
             last: workers,
@@ -43,28 +43,28 @@ impl Crew {
     }
 
     /// Returns the first half of the workers, and the others.
-    pub fn halves(self, game: &Game) -> (Crew, Crew)
-        requires crew { IsCrew game.now self }
+    pub fn halves(self, game: &Game) -> (WorkerRange, WorkerRange)
+        requires crew { IsWorkerRange game.now self }
         requires some { 2 ≤ self.last - self.first }
         ensures { AreHalves game.now self result.0 result.1 }
     {
         let middle = self.first + (self.last - self.first) / 2;
         let cut = first_state(game, self.workers, middle);
-        let Crew {
+        let WorkerRange {
             workers,
             first,
             last,
             low,
             high,
         } = self;
-        let front = Crew {
+        let front = WorkerRange {
             workers,
             first,
             last: middle,
             low,
             high: cut,
         };
-        let back = Crew {
+        let back = WorkerRange {
             workers,
             first: middle,
             last,

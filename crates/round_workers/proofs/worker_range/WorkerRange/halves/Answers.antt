@@ -1,6 +1,6 @@
 use Rattle.std.proofs.Common.{ℕ, ◌+◌, ◌-◌, ◌/◌, refl, arith}
 use Rattle.round_workers.proofs.Parts.{blocks-rise}
-use Rattle.round_workers.proofs.crew.Crew.halves.Goals as goal
+use Rattle.round_workers.proofs.worker_range.WorkerRange.halves.Goals as goal
 
 pub returns : goal.returns
 returns c =

@@ -11,7 +11,7 @@ use upper_guess::{UpTables, fill_part};
 /// These workers fill the up step of a table together. If there are W of them, a part has the number of states over W,
 /// rounded up. Worker w fills part w, counted from 0. The last workers may have none.
 #[derive(Drop)]
-pub struct Team<'a, R: Threads + Sync> {
+pub struct ParallelSweep<'a, R: Threads + Sync> {
     /// This starts their threads.
     pub rt: &'a R,
     /// There are this many workers.
@@ -19,7 +19,7 @@ pub struct Team<'a, R: Threads + Sync> {
     ghost some: { 1 ≤ workers },
 }
 
-impl<R: Threads + Sync> UpTables for Team<'_, R> {
+impl<R: Threads + Sync> UpTables for ParallelSweep<'_, R> {
     // The workers share what starts threads.
     ghost can_fill = { IsSync R.row };
 

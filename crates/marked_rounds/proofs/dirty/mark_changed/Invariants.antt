@@ -1,6 +1,6 @@
 use Rattle.std.proofs.Common.{◌≡◌, ◌-◌, ◌≤◌, length}
 use Rattle.marked_rounds.proofs.Marking.{AreMarkedBelow}
-use Rattle.marked_rounds.proofs.agenda.mark_changed.Given as goal
+use Rattle.marked_rounds.proofs.dirty.mark_changed.Given as goal
 
 abbrev pub invariant-loop-state : goal.invariant-loop-state
 invariant-loop-state l = record {

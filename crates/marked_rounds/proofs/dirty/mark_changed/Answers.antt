@@ -2,7 +2,7 @@ use Rattle.std.proofs.Common.{◌≡◌, ◌+◌, Bool, false, List, length, ari
 use Rattle.std.specs.Prelude.{slice_set}
 use Rattle.std.proofs.lemmas.List.{length-set}
 use Rattle.marked_rounds.proofs.Marking.{AreMarkedBelow, marked-more, marked-over}
-use Rattle.marked_rounds.proofs.agenda.mark_changed.Goals as goal
+use Rattle.marked_rounds.proofs.dirty.mark_changed.Goals as goal
 
 pub loop-state-preserved : goal.loop-state-preserved
 loop-state-preserved c =
