@@ -7,8 +7,8 @@ use Rattle.game_outside.specs.Outside.{Holding}
 use Rattle.game_outside.specs.Files.{HeldTextWith, ReadsFile}
 use Rattle.game_model.specs.Game.{Distribution}
 use Rattle.transition_lines.specs.declared.fault.TraFault.{TraFault}
-use Rattle.tra_reader.specs.declared.halt.Halt.{Halt}
-use Rattle.tra_reader.specs.declared.halt.Halt.TheVariants as halt
+use Rattle.tra_reader.specs.declared.stop.Stop.{Stop}
+use Rattle.tra_reader.specs.declared.stop.Stop.TheVariants as halt
 use Rattle.game_outside.specs.Answers.{AnswersOrWants}
 use Rattle.transition_lines.specs.Faults.{IsOutOfMemory}
 use Rattle.tra_reader.specs.inside.Reading.{IsAnswer}
@@ -68,7 +68,7 @@ module _ (holding : Option Holding) (name : List ℕ) (limit : ℕ) where
         holding name limit found
 
     -- what was read in order
-    pub reads_in_order : (read : Result (List (List Distribution)) (FileEnd Halt))
+    pub reads_in_order : (read : Result (List (List Distribution)) (FileEnd Stop))
         (found : Result (List (List Distribution)) (FileEnd TraFault)) → Some found ≡ in_order_of read
         → ReadsFile (λ text answer. IsAnswer text_fault answer (said text)) holding name limit read
         → ReadsFile (λ text answer. AnswersOrWants IsOutOfMemory (λ g. g) answer (said text)) holding name limit found
@@ -77,7 +77,7 @@ module _ (holding : Option Holding) (name : List ℕ) (limit : ℕ) where
         some_is : (a b : Result (List (List Distribution)) (FileEnd TraFault)) → Some a ≡ Some b → b ≡ a
         some_is a b h = cc
 
-        by : (read : Result (List (List Distribution)) (FileEnd Halt))
+        by : (read : Result (List (List Distribution)) (FileEnd Stop))
             (found : Result (List (List Distribution)) (FileEnd TraFault)) → Some found ≡ in_order_of read
             → ReadsFile (λ text answer. IsAnswer text_fault answer (said text)) holding name limit read → Right found
         by (Ok game) found is of = subst Right (some_is _ _ is) of

@@ -9,9 +9,9 @@ use Rattle.transition_lines.specs.Limits.{most_stated_choices}
 use Rattle.transition_lines.specs.declared.line.Transition.{Transition}
 use Rattle.transition_lines.specs.declared.fault.TraFault.{TraFault}
 use Rattle.transition_lines.specs.declared.fault.TraCause.TheVariants.{ChoiceGap}
-use Rattle.tra_reader.specs.declared.progress.Progress.{Progress}
-use Rattle.tra_reader.specs.declared.progress.Progress.TheVariants.{Builds}
-use Rattle.tra_reader.specs.declared.whole_choices.WholeChoices.{WholeChoices}
+use Rattle.tra_reader.specs.declared.build_state.BuildState.{BuildState}
+use Rattle.tra_reader.specs.declared.build_state.BuildState.TheVariants.{Builds}
+use Rattle.tra_reader.specs.declared.finished_choices.FinishedChoices.{FinishedChoices}
 use Rattle.transition_lines.specs.Faults.{fault_of_all}
 use Rattle.distributions.specs.declared.choice.Part.{Part}
 use Rattle.transition_lines.specs.Choices.{part_of, parts_of, transitions_of, choice_end, sum_of_first, first_crowded}
@@ -59,7 +59,7 @@ none_here ts s k to low here none = λ i j small le lt. elim (cases_lt (place_of
 ]
 
 -- behind the choice under way nothing stands up to a place
-pub before_next : (n place : ℕ) (ts : List Transition) (old new : WholeChoices) → new.state ≡ old.state
+pub before_next : (n place : ℕ) (ts : List Transition) (old new : FinishedChoices) → new.state ≡ old.state
     → new.choice ≡ old.choice + 1 → old.choice < most_stated_choices → All (IsWithin n) ts
     → NoneBetween ts (place_behind old + 1) place → IsWhole n ts new → AreWholeBefore n ts place new
 before_next n place ts old new state choice low within none made = record {
@@ -70,7 +70,7 @@ before_next n place ts old new state choice low within none made = record {
 }
 
 -- where nothing has begun
-pub before_first : (n place : ℕ) (ts : List Transition) (whole : WholeChoices) (parts : List Part) → parts ≡ []
+pub before_first : (n place : ℕ) (ts : List Transition) (whole : FinishedChoices) (parts : List Part) → parts ≡ []
     → parts ≡ parts_of ts whole.state whole.choice → whole.choice < most_stated_choices → All (IsWithin n) ts
     → NoneBetween ts (place_behind whole + 1) place → IsWhole n ts whole → AreWholeBefore n ts place whole
 before_first n place ts whole parts empty are low within none made = record {
@@ -87,12 +87,12 @@ before_first n place ts whole parts empty are low within none made = record {
 
 -- 2. All whole choices.
 
-pub made_of_all : (n : ℕ) (ts : List Transition) (whole : WholeChoices) (progress : Progress) → whole.state ≡ n
+pub made_of_all : (n : ℕ) (ts : List Transition) (whole : FinishedChoices) (progress : BuildState) → whole.state ≡ n
     → whole.choice ≡ 0 → whole.progress ≡ progress → IsWhole n ts whole → IsMade n ts n 0 whole.count progress
 made_of_all n ts whole progress state choice is made =
     let P : ℕ → Type 0 = λ s. IsMade n ts s whole.choice whole.count whole.progress in
     let Q : ℕ → Type 0 = λ k. IsMade n ts n k whole.count whole.progress in
-    let R : Progress → Type 0 = λ p. IsMade n ts n 0 whole.count p in
+    let R : BuildState → Type 0 = λ p. IsMade n ts n 0 whole.count p in
     subst R is (subst Q choice (subst P state made))
 
 pub gap_game : (ts : List Transition) (n i j : ℕ) (stated : Option ℕ) → i < n → HasGap ts i j
@@ -138,7 +138,7 @@ ready n ts k draft some few are = record {
       subst P (sym are.as_many) are.inside;
 }
 
-pub all_ready : (n : ℕ) (ts : List Transition) (k count : ℕ) (progress : Progress) → 0 < n → n ≤ most_states
+pub all_ready : (n : ℕ) (ts : List Transition) (k count : ℕ) (progress : BuildState) → 0 < n → n ≤ most_states
     → IsMade n ts n k count progress → IfBuilds progress IsReady
 all_ready n ts k count (Builds draft) some few made = ready n ts k draft some few made.1
 all_ready n ts k count progress some few made = tt

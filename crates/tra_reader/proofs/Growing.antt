@@ -7,9 +7,9 @@ use Rattle.game_model.specs.Draft.{Draft, no_states}
 use Rattle.distributions.specs.declared.choice.Part.{Part}
 use Rattle.transition_lines.specs.Limits.{most_stated_choices}
 use Rattle.transition_lines.specs.declared.line.Transition.{Transition}
-use Rattle.tra_reader.specs.declared.progress.Progress.{Progress}
-use Rattle.tra_reader.specs.declared.progress.Progress.TheVariants.{Builds, OutOfMemory}
-use Rattle.tra_reader.specs.declared.whole_choices.WholeChoices.{WholeChoices}
+use Rattle.tra_reader.specs.declared.build_state.BuildState.{BuildState}
+use Rattle.tra_reader.specs.declared.build_state.BuildState.TheVariants.{Builds, OutOfMemory}
+use Rattle.tra_reader.specs.declared.finished_choices.FinishedChoices.{FinishedChoices}
 use Rattle.transition_lines.specs.Lines.{is_of}
 use Rattle.transition_lines.specs.Choices.{transitions_of, part_of, parts_of}
 use Rattle.transition_lines.specs.Order.{IsWithin, place_of, transition_place}
@@ -61,9 +61,9 @@ holds_same game next n ts t is within state choice states whole parts =
     let this : is_of t.source t.choice t ≡ true =
     this_choice t.source t.choice t.source t.choice refl within.choice_in within.choice_in in
     let before : game.parts ≡ parts_of ts t.source t.choice = is.parts ∙ ap₂ (λ s k. parts_of ts s k) state choice in
-    let P : WholeChoices → Type 0 = λ w. IsWhole n (ts ++ t ∷ []) w in
+    let P : FinishedChoices → Type 0 = λ w. IsWhole n (ts ++ t ∷ []) w in
     keeps_next game next n ts t is within (omega (arith, place)) states
-    (ap (λ (w : WholeChoices). w.state) whole ∙ state) (ap (λ (w : WholeChoices). w.choice) whole ∙ choice)
+    (ap (λ (w : FinishedChoices). w.state) whole ∙ state) (ap (λ (w : FinishedChoices). w.choice) whole ∙ choice)
     (parts ∙ ap (λ ps. ps ++ part_of t ∷ []) before ∙ sym (same_this ts t t.source t.choice this))
     (λ e. part_there game.parts (part_of t) (sym parts ∙ e))
     (subst P (sym whole) (made_stays n ts t game.whole.state game.whole.choice game.whole.count game.whole.progress
@@ -94,7 +94,7 @@ holds_next game next n ts t is within lt states state choice parts whole =
     whole
 
 -- the choices before the next are whole
-pub whole_next : (game : Growing) (n : ℕ) (ts : List Transition) (t : Transition) (ended next : WholeChoices)
+pub whole_next : (game : Growing) (n : ℕ) (ts : List Transition) (t : Transition) (ended next : FinishedChoices)
     → HoldsInOrder game n ts → IsWithin n t → place_under_way game < transition_place t → ended.state ≡ t.source
     → EndsBefore game.parts t.source game.whole ended → GoesTo t.choice ended next → IsWhole n (ts ++ t ∷ []) next
 whole_next game n ts t ended next is within lt state ends goes =
@@ -115,12 +115,12 @@ whole_next game n ts t ended next is within lt state ends goes =
     goes n us (subst P (sym state) (last_there ts t small)) small (subst Q (sym state) before)
 
 -- the whole choices are those of all states
-pub record AreAll (n : ℕ) (ts : List Transition) (whole : WholeChoices) : Type 0 where
+pub record AreAll (n : ℕ) (ts : List Transition) (whole : FinishedChoices) : Type 0 where
   pub state : whole.state ≡ n
   pub choice : whole.choice ≡ 0
   pub made : IsWhole n ts whole
 
-pub all_whole : (game : Growing) (n : ℕ) (ts : List Transition) (ended : WholeChoices)
+pub all_whole : (game : Growing) (n : ℕ) (ts : List Transition) (ended : FinishedChoices)
     → HoldsInOrder game n ts → ended.state ≡ game.states
     → ((place : ℕ) → place_under_way game < place → place_of game.states 0 ≤ place → place_behind ended ≤ place)
     → EndsBefore game.parts game.states game.whole ended → AreAll n ts ended
@@ -176,7 +176,7 @@ pub holds_spent : (game next : Growing) (n : ℕ) (ts : List Transition) → Hol
     → next.states ≡ game.states → next.whole.state < n → next.whole.choice < most_stated_choices → next.parts ≡ []
     → next.whole.progress ≡ OutOfMemory → HoldsInOrder next n []
 holds_spent game next n ts is states state choice none spent =
-    let P : Progress → Type 0 = λ p. IsMade n [] next.whole.state next.whole.choice next.whole.count p in
+    let P : BuildState → Type 0 = λ p. IsMade n [] next.whole.state next.whole.choice next.whole.count p in
     record {
       states = states ∙ is.states;
       some = is.some;

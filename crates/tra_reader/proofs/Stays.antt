@@ -8,8 +8,8 @@ use Rattle.transition_lines.specs.Limits.{most_stated_choices}
 use Rattle.transition_lines.specs.declared.line.Transition.{Transition}
 use Rattle.transition_lines.specs.declared.fault.TraFault.{TraFault}
 use Rattle.game_model.specs.Draft.{Draft}
-use Rattle.tra_reader.specs.declared.progress.Progress.{Progress}
-use Rattle.tra_reader.specs.declared.progress.Progress.TheVariants.{Builds, Faulty, Crowded, Gap, OutOfMemory}
+use Rattle.tra_reader.specs.declared.build_state.BuildState.{BuildState}
+use Rattle.tra_reader.specs.declared.build_state.BuildState.TheVariants.{Builds, Faulty, Crowded, Gap, OutOfMemory}
 use Rattle.transition_lines.specs.Lines.{is_of}
 use Rattle.transition_lines.specs.Choices.{transitions_of, choice_end}
 use Rattle.transition_lines.specs.Order.{place_of, transition_place}
@@ -100,7 +100,7 @@ gap_stays ts t s k i j is lt gap = record {
 }
 
 -- what has come of the whole choices stays
-pub made_stays : (n : ℕ) (ts : List Transition) (t : Transition) (s k count : ℕ) (progress : Progress)
+pub made_stays : (n : ℕ) (ts : List Transition) (t : Transition) (s k count : ℕ) (progress : BuildState)
     → t.choice < most_stated_choices → k ≤ most_stated_choices → place_of s k ≤ transition_place t
     → IsMade n ts s k count progress → IsMade n (ts ++ t ∷ []) s k count progress
 made_stays n ts t s k count (Builds draft) small low le made =

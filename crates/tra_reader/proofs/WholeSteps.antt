@@ -16,8 +16,8 @@ use Rattle.distributions.specs.Parts.{choice_said}
 use Rattle.transition_lines.specs.Limits.{most_stated_choices}
 use Rattle.transition_lines.specs.declared.line.Transition.{Transition}
 use Rattle.transition_lines.specs.declared.fault.TraFault.{TraFault}
-use Rattle.tra_reader.specs.declared.progress.Progress.{Progress}
-use Rattle.tra_reader.specs.declared.progress.Progress.TheVariants.{Builds, Faulty, Crowded, Gap, OutOfMemory}
+use Rattle.tra_reader.specs.declared.build_state.BuildState.{BuildState}
+use Rattle.tra_reader.specs.declared.build_state.BuildState.TheVariants.{Builds, Faulty, Crowded, Gap, OutOfMemory}
 use Rattle.transition_lines.specs.Lines.{is_of}
 use Rattle.transition_lines.specs.declared.fault.TraCause.TheVariants.{Choice}
 use Rattle.transition_lines.specs.Faults.{fault_of_all}
@@ -120,7 +120,7 @@ fault_choice n ts s k count draft (BadSum a b) parts are here (inr said) made = 
     draft.under_way (BadSum a b) here made.0 made.1.done made.1.under_way (ap choice_said (sym are) ∙ said)
 
 -- nothing is built
-pub other_choice : (n : ℕ) (ts : List Transition) (s k count : ℕ) (progress : Progress)
+pub other_choice : (n : ℕ) (ts : List Transition) (s k count : ℕ) (progress : BuildState)
     → ((draft : Draft) → progress ≡ Builds draft → ⊥) → 0 < length (transitions_of ts s k)
     → IsMade n ts s k count progress → IsMade n ts s (k + 1) (count + 1) progress
 other_choice n ts s k count (Builds draft) other here made = absurd (other draft refl)
@@ -243,7 +243,7 @@ built_state n ts s k count draft h few none made =
     let end = end_here None ts s k count none made.0 in
     (counted_state None None ts s k count end (not_crowded s k few) made.0, ended_state n ts s k draft h end few made.1)
 
-pub other_state : (n : ℕ) (ts : List Transition) (s k count : ℕ) (progress : Progress)
+pub other_state : (n : ℕ) (ts : List Transition) (s k count : ℕ) (progress : BuildState)
     → ((draft : Draft) → progress ≡ Builds draft → ⊥) → k ≤ most_choices
     → ((j : ℕ) → k ≤ j → transitions_of ts s j ≡ []) → IsMade n ts s k count progress
     → IsMade n ts (s + 1) 0 count progress
@@ -263,7 +263,7 @@ crowded_state ts s k count many none are =
     ends_counted None (Some s) ts s k count none (ap (λ b. cond b (Some s) None) (lt-ltb most_choices k many)) are
 
 -- a state with too many choices behind one, or behind a gap
-pub later_state : (n : ℕ) (ts : List Transition) (s k count : ℕ) (progress : Progress)
+pub later_state : (n : ℕ) (ts : List Transition) (s k count : ℕ) (progress : BuildState)
     → ((draft : Draft) → progress ≡ Builds draft → ⊥) → ((fault : TraFault) → progress ≡ Faulty fault → ⊥)
     → k ≤ most_stated_choices → ((j : ℕ) → k ≤ j → transitions_of ts s j ≡ []) → IsMade n ts s k count progress
     → IsMade n ts (s + 1) 0 count progress

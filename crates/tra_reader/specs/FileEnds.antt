@@ -6,8 +6,8 @@ use Rattle.distributions.specs.declared.choice.ChoiceFault.TheVariants as choice
 use Rattle.transition_lines.specs.declared.fault.TraCause.{TraCause}
 use Rattle.transition_lines.specs.declared.fault.TraCause.TheVariants.{OutOfMemory, Choice}
 use Rattle.transition_lines.specs.declared.fault.TraFault.{TraFault}
-use Rattle.tra_reader.specs.declared.halt.Halt.{Halt}
-use Rattle.tra_reader.specs.declared.halt.Halt.TheVariants as halt
+use Rattle.tra_reader.specs.declared.stop.Stop.{Stop}
+use Rattle.tra_reader.specs.declared.stop.Stop.TheVariants as halt
 
 -- Memory ran out, for the whole text or for a choice.
 abbrev pub is_out_of_memory : TraCause → Bool
@@ -25,7 +25,7 @@ without_want_of (Err file.ReadFault) = Err file.ReadFault
 without_want_of (Err file.TooLong) = Err file.TooLong
 
 -- The answer is what was read, unless a line was out of order.
-abbrev pub in_order_of : {X : Type 0} → Result X (FileEnd Halt) → Option (Result X (FileEnd TraFault))
+abbrev pub in_order_of : {X : Type 0} → Result X (FileEnd Stop) → Option (Result X (FileEnd TraFault))
 in_order_of (Ok x) = Some (Ok x)
 in_order_of (Err (file.Refused halt.OutOfOrder)) = None
 in_order_of (Err (file.Refused (halt.Refused fault))) = Some (Err (file.Refused fault))

@@ -16,23 +16,23 @@ use transition_lines::{Header, TraFault, Transition};
 
 /// Reads a text whose transitions come in any order. It keeps all of them.
 #[derive(Drop)]
-pub struct AnyLines {
+pub struct UnorderedReader {
     alloc: Global,
     held: Option<AnyRows>,
 }
 
-impl AnyLines {
+impl UnorderedReader {
     ghost use Rattle.std.specs.Prelude.{None};
 
     /// Makes a reader that has read no line.
-    pub fn new(alloc: Global) -> AnyLines
+    pub fn new(alloc: Global) -> UnorderedReader
         ensures { result.held ≡ None }
     {
-        AnyLines { alloc, held: None }
+        UnorderedReader { alloc, held: None }
     }
 }
 
-impl LineReader for AnyLines {
+impl LineReader for UnorderedReader {
     ghost use Rattle.tra_reader.specs.inside.AnyOrder.{AnyRight};
 
     type Made = Game;
@@ -59,7 +59,7 @@ impl LineReader for AnyLines {
     }
 
     fn finish(self) -> Result<Game, TraFault> {
-        let AnyLines { alloc, held } = self;
+        let UnorderedReader { alloc, held } = self;
         match held {
             None => Err(no_header()),
             Some(held) => held.finish(alloc),

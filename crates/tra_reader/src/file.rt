@@ -10,8 +10,8 @@ ghost use Rattle.tra_reader.specs.inside.Reading.{IsAnswer};
 ghost use Rattle.tra_reader.specs.inside.Ordered.{text_fault};
 ghost use Rattle.tra_reader.specs.FileEnds.{is_out_of_memory, in_order_of, without_want_of};
 
-use crate::any_order::AnyLines;
-use crate::halt::Halt;
+use crate::any_order::UnorderedReader;
+use crate::stop::Stop;
 use crate::ordered::OrderedLines;
 use distributions::ChoiceFault;
 use game_model::Game;
@@ -49,7 +49,7 @@ fn read_in_order<H: Shelf>(
     shelf: &mut H,
     name: &str,
     limit: u64,
-) -> Result<Game, FileEnd<Halt>>
+) -> Result<Game, FileEnd<Stop>>
     requires { limit ≤ most_bytes }
     ensures reads { ReadsFile (λ text answer. IsAnswer text_fault answer (game_of text))
         (H.held shelf.old) name.now limit result }
@@ -71,12 +71,12 @@ fn read_in_any_order<H: Shelf>(
         (H.held shelf.old) name.now limit result }
     ensures shelf { LeavesShelf H.Shelf name.now limit shelf.old shelf.new result }
 {
-    let reader = AnyLines::new(alloc);
+    let reader = UnorderedReader::new(alloc);
     read_lines_from(alloc, shelf, name, limit, reader)
 }
 
 // Returns what was read, unless a line was out of order.
-fn in_order(read: Result<Game, FileEnd<Halt>>) -> Option<Result<Game, FileEnd<TraFault>>>
+fn in_order(read: Result<Game, FileEnd<Stop>>) -> Option<Result<Game, FileEnd<TraFault>>>
     ensures { result ≡ in_order_of read }
 {
     match read {
@@ -84,8 +84,8 @@ fn in_order(read: Result<Game, FileEnd<Halt>>) -> Option<Result<Game, FileEnd<Tr
         Err(FileEnd::OutOfMemory) => Some(Err(FileEnd::OutOfMemory)),
         Err(FileEnd::ReadFault) => Some(Err(FileEnd::ReadFault)),
         Err(FileEnd::TooLong) => Some(Err(FileEnd::TooLong)),
-        Err(FileEnd::Refused(Halt::Refused(fault))) => Some(Err(FileEnd::Refused(fault))),
-        Err(FileEnd::Refused(Halt::OutOfOrder)) => None,
+        Err(FileEnd::Refused(Stop::Refused(fault))) => Some(Err(FileEnd::Refused(fault))),
+        Err(FileEnd::Refused(Stop::OutOfOrder)) => None,
     }
 }
 

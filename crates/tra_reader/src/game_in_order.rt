@@ -8,8 +8,8 @@ ghost use Rattle.transition_lines.specs.Choices.{transitions_game};
 ghost use Rattle.transition_lines.specs.Order.{IsWithin, transition_place};
 ghost use Rattle.tra_reader.specs.inside.GrowingGames.{place_under_way, HoldsInOrder};
 
-use crate::progress::Progress;
-use crate::whole_choices::WholeChoices;
+use crate::build_state::BuildState;
+use crate::finished_choices::FinishedChoices;
 use distributions::Part;
 use game_model::{Edge, Game, GameBuilder};
 use std::alloc::{AllocError, Global};
@@ -21,7 +21,7 @@ use transition_lines::{TraFault, Transition, place_at};
 #[derive(Drop)]
 pub struct GameInOrder {
     states: u32,
-    whole: WholeChoices,
+    whole: FinishedChoices,
     parts: Vec<Part>,
     room: Vec<Edge>,
 }
@@ -49,11 +49,11 @@ impl GameInOrder {
         let Ok(builder) = GameBuilder::new(alloc) else {
             return Err(AllocError {});
         };
-        let whole = WholeChoices {
+        let whole = FinishedChoices {
             state: 0,
             choice: 0,
             count: 0,
-            progress: Progress::Builds(builder),
+            progress: BuildState::Builds(builder),
         };
         Ok(GameInOrder {
             states,
@@ -107,7 +107,7 @@ impl GameInOrder {
         self.whole.go_to(transition.choice);
         self.parts.clear();
         if self.parts.push(transition.part()).is_err() {
-            self.whole.progress = Progress::OutOfMemory;
+            self.whole.progress = BuildState::OutOfMemory;
             return Err(AllocError {});
         }
         Ok(())

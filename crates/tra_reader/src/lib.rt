@@ -21,13 +21,13 @@ mod body;
 mod build;
 mod file;
 mod game_in_order;
-mod halt;
+mod stop;
 mod line_actions;
 mod order;
 mod ordered;
-mod progress;
+mod build_state;
 mod reader;
-mod whole_choices;
+mod finished_choices;
 
 pub use file::read_tra_from;
 pub use reader::read_tra;

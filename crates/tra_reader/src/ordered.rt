@@ -11,7 +11,7 @@ ghost use Rattle.tra_reader.specs.inside.ActionUnderWay.{IsActionUnderWay, Compa
 
 use crate::body::{blank_between, check_count, first_line, no_header, read_row};
 use crate::game_in_order::GameInOrder;
-use crate::halt::Halt;
+use crate::stop::Stop;
 use game_model::Game;
 use std::alloc::{AllocError, Global};
 use text_lines::LineReader;
@@ -41,11 +41,11 @@ impl LineReader for OrderedLines {
 
     type Made = Game;
 
-    type Fault = Halt;
+    type Fault = Stop;
 
     ghost answers = { λ reader number lines answer. OrderedRight reader.held number lines answer };
 
-    fn take(&mut self, number: u32, line: &[u8]) -> Result<(), Halt> {
+    fn take(&mut self, number: u32, line: &[u8]) -> Result<(), Stop> {
         match &mut self.held {
             None => {
                 self.held = Some(OrderedRows::begin(self.alloc, line)?);
@@ -55,17 +55,17 @@ impl LineReader for OrderedLines {
         }
     }
 
-    fn blank(&self, number: u32) -> Halt {
+    fn blank(&self, number: u32) -> Stop {
         match self.held {
-            None => Halt::Refused(no_header()),
-            Some(_) => Halt::Refused(blank_between(number)),
+            None => Stop::Refused(no_header()),
+            Some(_) => Stop::Refused(blank_between(number)),
         }
     }
 
-    fn finish(self) -> Result<Game, Halt> {
+    fn finish(self) -> Result<Game, Stop> {
         let OrderedLines { alloc, held } = self;
         match held {
-            None => Err(Halt::Refused(no_header())),
+            None => Err(Stop::Refused(no_header())),
             Some(held) => Ok(held.finish(alloc)?),
         }
     }
@@ -101,13 +101,13 @@ impl OrderedRows {
     }
 
     /// Takes the row of a line that is not blank.
-    pub fn take(&mut self, alloc: Global, number: u32, line: &[u8]) -> Result<(), Halt>
+    pub fn take(&mut self, alloc: Global, number: u32, line: &[u8]) -> Result<(), Stop>
         requires { fields_of line.now ≢ [] }
         ensures ok { OnOk result (TakesOrdered self.old self.new line.now) }
         ensures fault { MatchResult result (λ _. Unit {0}) (λ halt. RefusesOrdered self.old number line.now halt) }
     {
         match read_row(&self.header, self.read, number, line) {
-            Err(fault) => Err(Halt::Refused(fault)),
+            Err(fault) => Err(Stop::Refused(fault)),
             Ok((transition, action)) => self.add(alloc, number, &transition, action),
         }
     }
@@ -119,7 +119,7 @@ impl OrderedRows {
         number: u32,
         transition: &Transition,
         action: &[u8],
-    ) -> Result<(), Halt>
+    ) -> Result<(), Stop>
         requires within { IsWithin self.old.header.states transition.now }
         requires few { self.old.read < self.old.header.lines }
         ensures ok { OnOk result (AddsOrdered self.old self.new
@@ -130,10 +130,10 @@ impl OrderedRows {
     {
         let place = transition.place();
         if place < self.game.place() {
-            return Err(Halt::OutOfOrder);
+            return Err(Stop::OutOfOrder);
         }
         if compare(&self.game, &mut self.action, place, action)? {
-            return Err(Halt::Refused(TraFault::of_clash(number, transition)));
+            return Err(Stop::Refused(TraFault::of_clash(number, transition)));
         }
         self.game.add(alloc, transition)?;
         self.read += 1;

@@ -6,8 +6,8 @@ ghost use Rattle.game_outside.specs.Answers.{AnswersOrWants};
 ghost use Rattle.transition_lines.specs.Faults.{IsOutOfMemory};
 ghost use Rattle.transition_lines.specs.Text.{game_of};
 
-use crate::any_order::AnyLines;
-use crate::halt::Halt;
+use crate::any_order::UnorderedReader;
+use crate::stop::Stop;
 use crate::ordered::OrderedLines;
 use game_model::Game;
 use std::alloc::Global;
@@ -23,7 +23,7 @@ pub fn read_tra(alloc: Global, bytes: &[u8]) -> Result<Game, TraFault>
 {
     match read_lines(bytes, OrderedLines::new(alloc)) {
         Ok(game) => Ok(game),
-        Err(Halt::Refused(fault)) => Err(fault),
-        Err(Halt::OutOfOrder) => read_lines(bytes, AnyLines::new(alloc)),
+        Err(Stop::Refused(fault)) => Err(fault),
+        Err(Stop::OutOfOrder) => read_lines(bytes, UnorderedReader::new(alloc)),
     }
 }

@@ -11,9 +11,9 @@ use Rattle.distributions.specs.declared.choice.ChoiceFault.TheVariants.{OutOfMem
 use Rattle.distributions.specs.Parts.{choice_said, DenotesChoice}
 use Rattle.transition_lines.specs.declared.line.Transition.{Transition}
 use Rattle.transition_lines.specs.declared.fault.TraFault.{TraFault}
-use Rattle.tra_reader.specs.declared.progress.Progress.{Progress}
-use Rattle.tra_reader.specs.declared.progress.Progress.TheVariants.{Builds, Faulty, Crowded, Gap, OutOfMemory}
-use Rattle.tra_reader.specs.declared.whole_choices.WholeChoices.{WholeChoices}
+use Rattle.tra_reader.specs.declared.build_state.BuildState.{BuildState}
+use Rattle.tra_reader.specs.declared.build_state.BuildState.TheVariants.{Builds, Faulty, Crowded, Gap, OutOfMemory}
+use Rattle.tra_reader.specs.declared.finished_choices.FinishedChoices.{FinishedChoices}
 use Rattle.transition_lines.specs.Faults.{fault_of_choice}
 use Rattle.transition_lines.specs.Limits.{most_stated_choices}
 use Rattle.transition_lines.specs.Choices.{transitions_of, parts_of, self_loop, sum_of_first, choice_end, first_gap}
@@ -65,7 +65,7 @@ pub record HasGap (transitions : List Transition) (i j : ℕ) : Type 0 where
   pub found : 0 < length (transitions_of transitions i later)
 
 -- This is the progress that the whole choices of n states make.
-abbrev pub IsMade : ℕ → List Transition → ℕ → ℕ → ℕ → Progress → Type 0
+abbrev pub IsMade : ℕ → List Transition → ℕ → ℕ → ℕ → BuildState → Type 0
 IsMade n transitions s k count (Builds draft) =
     AreCounted None transitions s k count × AreDrafted n transitions s k draft
 IsMade n transitions s k count (Faulty fault) = AreCounted None transitions s k count × HaveFault transitions s k fault
@@ -74,11 +74,11 @@ IsMade n transitions s k count (Gap i j) = HasGap transitions i j × (place_of i
 IsMade n transitions s k count OutOfMemory = Unit {0}
 
 -- This is the progress that these transitions between n states make with the choices before the one under way.
-abbrev pub IsWhole : ℕ → List Transition → WholeChoices → Type 0
+abbrev pub IsWhole : ℕ → List Transition → FinishedChoices → Type 0
 IsWhole n transitions whole = IsMade n transitions whole.state whole.choice whole.count whole.progress
 
 -- This is the place behind the whole choices.
-abbrev pub place_behind : WholeChoices → ℕ
+abbrev pub place_behind : FinishedChoices → ℕ
 place_behind whole = place_of whole.state whole.choice
 
 -- No transition has a place at or after `from` and before `to`.
@@ -87,7 +87,7 @@ NoneBetween transitions from to = (s k : ℕ) → k < most_stated_choices → fr
     → transitions_of transitions s k ≡ []
 
 -- All choices before this place are whole.
-pub record AreWholeBefore (n : ℕ) (transitions : List Transition) (place : ℕ) (whole : WholeChoices) : Type 0 where
+pub record AreWholeBefore (n : ℕ) (transitions : List Transition) (place : ℕ) (whole : FinishedChoices) : Type 0 where
   pub made : IsWhole n transitions whole
   pub low : whole.choice ≤ most_stated_choices
   pub none : NoneBetween transitions (place_behind whole) place
@@ -96,46 +96,46 @@ pub record AreWholeBefore (n : ℕ) (transitions : List Transition) (place : ℕ
 -- 2. These definitions are about steps.
 
 -- The step makes choice k of state s, which has these parts, whole.
-abbrev pub EndsChoice : List Part → ℕ → ℕ → Progress → Progress → Type 0
+abbrev pub EndsChoice : List Part → ℕ → ℕ → BuildState → BuildState → Type 0
 EndsChoice parts s k old new = (n count : ℕ) (transitions : List Transition) → parts ≡ parts_of transitions s k
     → 0 < length parts → All (IsWithin n) transitions
     → IsMade n transitions s k count old → IsMade n transitions s (k + 1) (count + 1) new
 
 -- The step makes state s, which has k choices, whole.
-abbrev pub EndsState : ℕ → ℕ → Progress → Progress → Type 0
+abbrev pub EndsState : ℕ → ℕ → BuildState → BuildState → Type 0
 EndsState s k old new = (n count : ℕ) (transitions : List Transition) → s < n → k ≤ most_stated_choices
     → ((j : ℕ) → k ≤ j → transitions_of transitions s j ≡ []) → All (IsWithin n) transitions
     → IsMade n transitions s k count old → IsMade n transitions (s + 1) 0 count new
 
 -- The step makes state s, which has too many choices, whole.
-abbrev pub CrowdsState : ℕ → Progress → Progress → Type 0
+abbrev pub CrowdsState : ℕ → BuildState → BuildState → Type 0
 CrowdsState s old new = (k : ℕ) → most_choices < k → EndsState s k old new
 
 -- The step notes that choice k of state s is missing before a later one.
-abbrev pub NotesGap : ℕ → ℕ → Progress → Progress → Type 0
+abbrev pub NotesGap : ℕ → ℕ → BuildState → BuildState → Type 0
 NotesGap s k old new = (n count later : ℕ) (transitions : List Transition) → k < later
     → transitions_of transitions s k ≡ [] → 0 < length (transitions_of transitions s later)
     → IsMade n transitions s k count old → IsMade n transitions s later count new
 
 -- The step makes the choice under way, which has these parts, whole.
-abbrev pub AddsChoice : List Part → WholeChoices → WholeChoices → Type 0
+abbrev pub AddsChoice : List Part → FinishedChoices → FinishedChoices → Type 0
 AddsChoice parts old new = (n : ℕ) (transitions : List Transition) → parts ≡ parts_of transitions old.state old.choice
     → 0 < length parts → All (IsWithin n) transitions → IsWhole n transitions old → IsWhole n transitions new
 
 -- The step makes the states before `to` whole.
-abbrev pub EndsStates : ℕ → WholeChoices → WholeChoices → Type 0
+abbrev pub EndsStates : ℕ → FinishedChoices → FinishedChoices → Type 0
 EndsStates to old new = (n place : ℕ) (transitions : List Transition) → to ≤ n → place_of to 0 ≤ place
     → AreWholeBefore n transitions place old → AreWholeBefore n transitions place new
 
 -- The step makes all choices before state `to` whole. The parts are those of the choice under way.
-abbrev pub EndsBefore : List Part → ℕ → WholeChoices → WholeChoices → Type 0
+abbrev pub EndsBefore : List Part → ℕ → FinishedChoices → FinishedChoices → Type 0
 EndsBefore parts to old new = (n place : ℕ) (transitions : List Transition) → to ≤ n → place_of to 0 ≤ place
     → parts ≡ parts_of transitions old.state old.choice → All (IsWithin n) transitions
     → NoneBetween transitions (place_behind old + 1) place → IsWhole n transitions old
     → AreWholeBefore n transitions place new
 
 -- The step makes this choice, which has a transition, the one under way.
-abbrev pub GoesTo : ℕ → WholeChoices → WholeChoices → Type 0
+abbrev pub GoesTo : ℕ → FinishedChoices → FinishedChoices → Type 0
 GoesTo choice old new = (n : ℕ) (transitions : List Transition)
     → 0 < length (transitions_of transitions old.state choice) → choice < most_stated_choices
     → AreWholeBefore n transitions (place_of old.state choice) old → IsWhole n transitions new
@@ -156,7 +156,7 @@ abbrev pub ended : ℕ → ℕ → Draft → Draft
 ended s count draft = if count == 0 then with_state (with_choice draft (self_loop s)) else with_state draft
 
 -- This is the progress after a choice with this fault.
-abbrev pub progress_of : ℕ → ℕ → ChoiceFault → Progress
+abbrev pub progress_of : ℕ → ℕ → ChoiceFault → BuildState
 progress_of s k NoMemory = OutOfMemory
 progress_of s k (TooFine first second) = Faulty (fault_of_choice s k (TooFine first second))
 progress_of s k (BadSum sum denominator) = Faulty (fault_of_choice s k (BadSum sum denominator))
@@ -171,7 +171,7 @@ pub record IsReady (draft : Draft) : Type 0 where
 
 -- This is true of the draft if one is built: no choice is faulty or missing, no state has too many, and memory did not
 -- run out.
-abbrev pub IfBuilds : Progress → (Draft → Type 0) → Type 0
+abbrev pub IfBuilds : BuildState → (Draft → Type 0) → Type 0
 IfBuilds (Builds draft) P = P draft
 IfBuilds progress P = Unit {0}
 
@@ -187,7 +187,7 @@ IsAsStated stated read (Some fault) = (game : Result (List (List Distribution)) 
 -- way.
 pub record Growing : Type 0 where
   pub states : ℕ
-  pub whole : WholeChoices
+  pub whole : FinishedChoices
   pub parts : List Part
 
 -- This is the place of the choice under way.

@@ -4,8 +4,8 @@ use Rattle.std.specs.List.{All}
 use Rattle.game_model.specs.Game.{Distribution}
 use Rattle.transition_lines.specs.declared.header.Header.{Header}
 use Rattle.transition_lines.specs.declared.fault.TraFault.{TraFault}
-use Rattle.tra_reader.specs.declared.halt.Halt.{Halt}
-use Rattle.tra_reader.specs.declared.halt.Halt.TheVariants.{OutOfOrder, Refused}
+use Rattle.tra_reader.specs.declared.stop.Stop.{Stop}
+use Rattle.tra_reader.specs.declared.stop.Stop.TheVariants.{OutOfOrder, Refused}
 use Rattle.tra_reader.specs.declared.ordered.OrderedRows.{OrderedRows}
 use Rattle.transition_lines.specs.Lines.{Row}
 use Rattle.transition_lines.specs.Text.{transitions}
@@ -15,7 +15,7 @@ use Rattle.tra_reader.specs.inside.GrowingGames.{Growing, HoldsInOrder}
 use Rattle.tra_reader.specs.inside.Reading.{IsRight, Begins, TakesLine, RefusesLine, AddsRow, RefusesRow, Finishes}
 
 -- This is the fault of the text, if the reader tells one.
-abbrev pub text_fault : Halt → Option TraFault
+abbrev pub text_fault : Stop → Option TraFault
 text_fault OutOfOrder = None
 text_fault (Refused fault) = Some fault
 
@@ -37,7 +37,7 @@ HoldsOrdered held rows = AreInOrder held.header.states held.read held.game held.
 
 -- The answer is right if the text goes on with these lines, the first of which has this number. That a line is out of
 -- order says nothing of the text.
-abbrev pub OrderedRight : Option OrderedRows → ℕ → List (List ℕ) → Result (List (List Distribution)) Halt → Type 0
+abbrev pub OrderedRight : Option OrderedRows → ℕ → List (List ℕ) → Result (List (List Distribution)) Stop → Type 0
 OrderedRight = IsRight ordered_header HoldsOrdered text_fault
 
 -- The line is the header, behind which no row is held yet, or it has this fault, or memory ran out.
@@ -49,7 +49,7 @@ abbrev pub TakesOrdered : OrderedRows → OrderedRows → List ℕ → Type 0
 TakesOrdered = TakesLine ordered_header HoldsOrdered
 
 -- Unless it is out of order, the line of this number has this fault behind the rows that are held, or memory ran out.
-abbrev pub RefusesOrdered : OrderedRows → ℕ → List ℕ → Halt → Type 0
+abbrev pub RefusesOrdered : OrderedRows → ℕ → List ℕ → Stop → Type 0
 RefusesOrdered = RefusesLine ordered_header HoldsOrdered text_fault
 
 -- The row has the same action as the held rows of its choice, and is held with them from now on.
@@ -57,7 +57,7 @@ abbrev pub AddsOrdered : OrderedRows → OrderedRows → Row → Type 0
 AddsOrdered = AddsRow ordered_header HoldsOrdered
 
 -- Unless it is out of order, the row has another action than the held rows give its choice, or memory ran out.
-abbrev pub RefusesOrderedRow : OrderedRows → ℕ → Row → Halt → Type 0
+abbrev pub RefusesOrderedRow : OrderedRows → ℕ → Row → Stop → Type 0
 RefusesOrderedRow = RefusesRow HoldsOrdered text_fault
 
 -- At the end of the text the held rows make this game, or have this first fault, or memory ran out.

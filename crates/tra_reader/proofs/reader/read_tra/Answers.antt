@@ -1,6 +1,6 @@
 use Rattle.std.proofs.Common.{Ok, Err, Some, ap}
 use Rattle.text_lines.specs.Text.{lines_of, significant}
-use Rattle.tra_reader.specs.declared.halt.Halt.{Halt}
+use Rattle.tra_reader.specs.declared.stop.Stop.{Stop}
 use Rattle.transition_lines.specs.declared.fault.TraFault.{TraFault}
 use Rattle.transition_lines.specs.Text.{game_of, lines_game}
 use Rattle.tra_reader.specs.inside.Ordered.{ordered_header, HoldsOrdered, text_fault}
@@ -18,7 +18,7 @@ unfolding game_of
 returns-in-Err-Refused c =
     let right = right_whole ordered_header HoldsOrdered text_fault c.new.result.held
     (significant (lines_of c.args.bytes.now)) (Err c.in-Err-Refused.field-0) c.new.ensures c.in-Err-Refused.ensures in
-    right c.in-Err-Refused.fault (ap (λ (halt : Halt). text_fault halt) c.in-Err-Refused.field-0-is)
+    right c.in-Err-Refused.fault (ap (λ (halt : Stop). text_fault halt) c.in-Err-Refused.field-0-is)
 
 pub returns-in-Err-OutOfOrder : goal.returns-in-Err-OutOfOrder
 unfolding game_of

@@ -1,6 +1,6 @@
 use Rattle.std.proofs.Common.{Ok, Err, refl}
 use Rattle.std.proofs.lemmas.Result.{err_from_is_err_and}
-use Rattle.tra_reader.specs.declared.halt.Halt.TheVariants.{Refused}
+use Rattle.tra_reader.specs.declared.stop.Stop.TheVariants.{Refused}
 use Rattle.tra_reader.specs.inside.Ordered.{ordered_header, HoldsOrdered, text_fault}
 use Rattle.tra_reader.proofs.Taking.{answer_told, right_end}
 use Rattle.tra_reader.proofs.ordered.OrderedLinesLineReader.finish.Goals as goal

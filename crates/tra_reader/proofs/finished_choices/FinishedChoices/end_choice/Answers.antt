@@ -1,0 +1,10 @@
+use Rattle.std.proofs.Common.{rules, ◌≡◌, ℕ, ◌+◌, sym, subst}
+use Rattle.tra_reader.specs.inside.GrowingGames.{IsMade}
+use Rattle.tra_reader.proofs.finished_choices.FinishedChoices.end_choice.Goals as goal
+
+pub returns-in-Some-clause-made : goal.returns-in-Some-clause-made
+returns-in-Some-clause-made c = λ n ts are some within made.
+    let whole = c.args.self.now in
+    let more : c.in-Some.count ≡ whole.count + 1 = search rules in
+    let P : ℕ → Type 0 = λ count. IsMade n ts whole.state (whole.choice + 1) count c.push.new.self in
+    subst P (sym more) (c.push.ensures n whole.count ts are some within made)

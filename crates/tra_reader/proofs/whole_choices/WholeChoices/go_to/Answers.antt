@@ -1,9 +1,0 @@
-use Rattle.std.proofs.Common.{◌<◌, arith}
-use Rattle.tra_reader.proofs.whole_choices.WholeChoices.go_to.Goals as goal
-
-pub returns-clause-made : goal.returns-clause-made
-returns-clause-made c = λ n ts found low is.
-    let whole = c.args.self.now in
-    let h : whole.choice < c.args.choice = omega arith in
-    c.note_gap.ensures n whole.count c.args.choice ts h
-    (is.none whole.state whole.choice (omega (arith, h, low)) (omega arith) (omega (arith, h))) found is.made
