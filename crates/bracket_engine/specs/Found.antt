@@ -14,7 +14,7 @@ use Rattle.bracket_engine.specs.Choices.{AreChoices}
 
 -- The result is a bracket of a question with this zero set, after at most the asked rounds. Its plan passes the checks
 -- of an audit.
-pub record IsFound (q : Query) (zero : List Bool) (bound : Bound) (initial : List ℕ) (asked : ℕ)
+pub record IsBracketOfRun (q : Query) (zero : List Bool) (bound : Bound) (initial : List ℕ) (asked : ℕ)
     (found : Bracket) : Type 0 where
   pub bounds : IsBracket q zero bound initial asked found.base.items found.plan.upper.items found.rounds found.stable
   pub lists : HasStates found.plan (states q)

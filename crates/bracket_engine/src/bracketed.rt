@@ -6,7 +6,7 @@ ghost use Rattle.game_model.specs.Dual.{IsZeroSet};
 ghost use Rattle.predecessors.specs.Lists.{ArePredecessors};
 ghost use Rattle.round_workers.specs.Share.{most_workers};
 ghost use Rattle.bracket_engine.specs.Limits.{most_rounds};
-ghost use Rattle.bracket_engine.specs.Found.{IsFound};
+ghost use Rattle.bracket_engine.specs.Found.{IsBracketOfRun};
 
 use crate::bounds::Bracket;
 use crate::run::bracket_over;
@@ -47,7 +47,7 @@ pub fn bracket_for<R: Threads + Sync, G: Gate + Sync>(
     requires some { 1 ≤ workers }
     requires few { workers ≤ most_workers }
     ensures zero { IfOk result (λ it. IsZeroSet question.now it.zero) }
-    ensures found { IfOk result (λ it. IsFound question.now it.zero bound initial.now rounds it.bracket) }
+    ensures found { IfOk result (λ it. IsBracketOfRun question.now it.zero bound initial.now rounds it.bracket) }
 {
     let zero = zero_set_over(alloc, question, predecessors)?;
     let stop = StopRule::of_bound(bound, |lower, upper| {

@@ -6,7 +6,7 @@ ghost use Rattle.game_model.specs.Limits.{unit};
 ghost use Rattle.game_model.specs.Dual.{swapped, IsZeroSet};
 ghost use Rattle.game_model.specs.Rounded.{IsSettled};
 ghost use Rattle.verdicts.specs.Stop.{bound_of};
-ghost use Rattle.bracket_engine.specs.Found.{IsFound};
+ghost use Rattle.bracket_engine.specs.Found.{IsBracketOfRun};
 ghost use Rattle.bracket_engine.specs.inside.Race.{AreOver};
 
 use crate::base::Base;
@@ -36,7 +36,7 @@ pub fn bracket_of<R: Threads + Sync, F: Fn(u64, u64) -> bool, G: Gate + Sync>(
         made.now.ending.now.zero.now }
     requires over { AreOver made.now.ending.now.question.now swapped_question made.now.ending.now.zero.now
         (bound_of made.now.ending.now.rule.now) made.now.ending.now.initial.now made.now.most raced }
-    ensures { IfOk result (IsFound made.now.ending.now.question.now made.now.ending.now.zero.now
+    ensures { IfOk result (IsBracketOfRun made.now.ending.now.question.now made.now.ending.now.zero.now
         (bound_of made.now.ending.now.rule.now) made.now.ending.now.initial.now made.now.most) }
 {
     swapped_question.known();

@@ -7,7 +7,7 @@ ghost use Rattle.predecessors.specs.Lists.{ArePredecessors};
 ghost use Rattle.round_workers.specs.Share.{most_workers};
 ghost use Rattle.verdicts.specs.Stop.{bound_of, IsStopRule};
 ghost use Rattle.bracket_engine.specs.Limits.{most_rounds};
-ghost use Rattle.bracket_engine.specs.Found.{IsFound};
+ghost use Rattle.bracket_engine.specs.Found.{IsBracketOfRun};
 
 use crate::bounds::Bracket;
 use crate::closing::bracket_of;
@@ -56,7 +56,7 @@ pub fn bracket<R: Threads + Sync, F: Fn(u64, u64) -> bool, G: Gate + Sync>(
     requires few { workers ≤ most_workers }
     requires stop { IsStopRule F.Fn stop.now }
     requires initial { All (λ s. s < states question.now) initial.now }
-    ensures { IfOk result (IsFound question.now zero.now (bound_of stop.now) initial.now rounds) }
+    ensures { IfOk result (IsBracketOfRun question.now zero.now (bound_of stop.now) initial.now rounds) }
 {
     let predecessors = Predecessors::of_game(alloc, question.game())?;
     bracket_over(
@@ -94,7 +94,7 @@ pub fn bracket_over<R: Threads + Sync, F: Fn(u64, u64) -> bool, G: Gate + Sync>(
     requires few { workers ≤ most_workers }
     requires stop { IsStopRule F.Fn stop.now }
     requires initial { All (λ s. s < states question.now) initial.now }
-    ensures { IfOk result (IsFound question.now zero.now (bound_of stop.now) initial.now rounds) }
+    ensures { IfOk result (IsBracketOfRun question.now zero.now (bound_of stop.now) initial.now rounds) }
 {
     question.known();
     let swapped_question = swap(alloc, question, zero)?;

@@ -21,7 +21,7 @@ use Rattle.formula_reader.specs.declared.formula.Bound.{Bound}
 use Rattle.formula_reader.specs.declared.formula.Bound.TheVariants.{AtLeast, Above, AtMost, Below, AskMax, AskMin}
 use Rattle.verdicts.specs.Verdict.{verdict_of, is_settling, is_asking}
 use Rattle.bracket_engine.specs.declared.bounds.Bracket.{Bracket}
-use Rattle.bracket_engine.specs.Found.{IsFound}
+use Rattle.bracket_engine.specs.Found.{IsBracketOfRun}
 use Rattle.bracket_engine.specs.Stop.{AreSettledAt}
 use Rattle.formula_truth.proofs.Sharper.{test_of, test-more, settled-test}
 
@@ -73,7 +73,7 @@ within-top b c top n o r h p some_h some_p low opened both swapped_low =
     le_of_mul-le-mul_left whole (mul-pos some_h some_p)
 
 module _ (q : Query) (zero : List Bool) (bound : Bound) (starts : List ℕ) (asked : ℕ) (found : Bracket)
-    (posed : IsQuery q) (is_zero : IsZeroSet q zero) (run : IsFound q zero bound starts asked found)
+    (posed : IsQuery q) (is_zero : IsZeroSet q zero) (run : IsBracketOfRun q zero bound starts asked found)
     (s : ℕ) (inside : s < length q.game) where
   some-parts : (k : ℕ) → 0 < denominator q.game ^ k
   some-parts k = omega (arith, one-le-pow k (denominator q.game) (denominator-pos q.game posed.game))

@@ -15,7 +15,7 @@ use Rattle.formula_sets.specs.Posing.{Model, next_question_of}
 use Rattle.bounded_rounds.specs.Steps.{IsSweep}
 use Rattle.bracket_engine.specs.declared.bounds.Bracket.{Bracket}
 use Rattle.bracket_engine.specs.Bracket.{complements_of}
-use Rattle.bracket_engine.specs.Found.{IsFound}
+use Rattle.bracket_engine.specs.Found.{IsBracketOfRun}
 use Rattle.verdicts.specs.declared.report.How.{How}
 use Rattle.verdicts.specs.declared.report.How.TheVariants.{Rounds, Steps, Solved}
 use Rattle.plan_text.specs.declared.plan.Plan.{Plan}
@@ -36,7 +36,7 @@ pub record IsRun (q : Query) (bound : Bound) (starts : List ℕ) (asked : ℕ) (
   pub zero : List Bool
   pub is_zero : IsZeroSet q zero
   pub found : Bracket
-  pub is_found : IsFound q zero bound starts asked found
+  pub is_found : IsBracketOfRun q zero bound starts asked found
   pub lower_is : lower ≡ found.plan.lower.items
   pub upper_is : upper ≡ found.plan.upper.items
   pub rounds : how ≡ Rounds found.rounds

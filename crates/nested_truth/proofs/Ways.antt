@@ -9,7 +9,7 @@ use Rattle.game_model.specs.Dual.{IsZeroSet}
 use Rattle.formula_reader.specs.declared.formula.Bound.{Bound}
 use Rattle.bounded_rounds.specs.Steps.{IsSweep}
 use Rattle.bracket_engine.specs.declared.bounds.Bracket.{Bracket}
-use Rattle.bracket_engine.specs.Found.{IsFound}
+use Rattle.bracket_engine.specs.Found.{IsBracketOfRun}
 use Rattle.plan_text.specs.declared.plan.Plan.{Plan}
 use Rattle.solved_plans.specs.Plans.{IsSolvedPlan}
 use Rattle.verdicts.specs.declared.report.How.{How}
@@ -22,7 +22,7 @@ use Rattle.nested_truth.specs.Seen.{IsBand, high_or}
 -- 1. One question.
 
 pub by-rounds : (way : Way) (asked : ℕ) → way ≡ ByRounds asked → (q : Query) (bound : Bound) (starts : List ℕ)
-    (zero : List Bool) (found : Bracket) → IsZeroSet q zero → IsFound q zero bound starts asked found
+    (zero : List Bool) (found : Bracket) → IsZeroSet q zero → IsBracketOfRun q zero bound starts asked found
     → IsAnsweredBy way q bound starts found.plan.lower.items found.plan.upper.items (Rounds found.rounds)
 by-rounds way asked is q bound starts zero found is_zero is_found =
     let plan : Plan = found.plan in

@@ -9,7 +9,7 @@ use Rattle.game_model.specs.Game.{choices_of, choice_of, no_edge}
 use Rattle.game_model.specs.Query.{Query, IsQuery, states, side_at}
 use Rattle.game_model.specs.Ranks.{HasRankedChoice, Ranked}
 use Rattle.rank_certificate.specs.Ranking.{IsEnough, NeedsRank}
-use Rattle.rank_certificate.specs.Layers.{IsAsked, LeadsInto, IsWithin, AreLayered}
+use Rattle.rank_certificate.specs.Layers.{MustBeRanked, LeadsInto, IsWithin, AreLayered}
 use Rattle.rank_certificate.specs.Carrying.{MayTake, Carries, IsCarriedBy, IsCarried, IsCarriedAt}
 use Rattle.rank_certificate.specs.inside.RankLayers.{IsGrown}
 use Rattle.rank_certificate.proofs.States.{Some-one}
@@ -47,7 +47,7 @@ module _ (q : Query) (values : List ℕ) (choices : List (Option ℕ)) (vouching
 
   -- where choices that have to be ranked lead into a layer, the state is carried into it
   asked-carries : (k s c : ℕ) → s < states q → ((t : ℕ) → t < states q → IsWithin q value choices k t → carried k t)
-      → IsAsked q choices s c → LeadsInto value (IsWithin q value choices k) s (choice_of q.game s c)
+      → MustBeRanked q choices s c → LeadsInto value (IsWithin q value choices k) s (choice_of q.game s c)
       → Carries q value (Some choices) (carried k) s c
   asked-carries k s c inside earlier asked leads = record {
     may = asked.1;
@@ -57,14 +57,14 @@ module _ (q : Query) (values : List ℕ) (choices : List (Option ℕ)) (vouching
   }
 
   by-given : (k s : ℕ) → s < states q → ((t : ℕ) → t < states q → IsWithin q value choices k t → carried k t)
-      → ((c : ℕ) → IsAsked q choices s c → LeadsInto value (IsWithin q value choices k) s (choice_of q.game s c))
+      → ((c : ℕ) → MustBeRanked q choices s c → LeadsInto value (IsWithin q value choices k) s (choice_of q.game s c))
       → side_at q s ≡ Max → (o : Option ℕ) → slice_index_or choices s None ≡ o
       → (¬ NeedsRank q value s) ⊎ IsCarriedBy Max q value (Some choices) (carried k) s
   by-given k s inside earlier all max None left = inl (λ needs.
       let has = has-choice s inside needs max in Some-none (slice_index_or choices s None) has.choice has.given left)
   by-given k s inside earlier all max (Some c) given = elim (cases_lt c (length (choices_of q.game s))) [
     | inl lc ↦
-        let asked : IsAsked q choices s c =
+        let asked : MustBeRanked q choices s c =
         (lc, given-asked (side_at q s) (slice_index_or choices s None) c max given) in
         inr (c, lc, asked-carries k s c inside earlier asked (all c asked))
     | inr past ↦ inl (λ needs.
@@ -73,12 +73,12 @@ module _ (q : Query) (values : List ℕ) (choices : List (Option ℕ)) (vouching
   ]
 
   by-asked : (k s : ℕ) → s < states q → ((t : ℕ) → t < states q → IsWithin q value choices k t → carried k t)
-      → ((c : ℕ) → IsAsked q choices s c → LeadsInto value (IsWithin q value choices k) s (choice_of q.game s c))
+      → ((c : ℕ) → MustBeRanked q choices s c → LeadsInto value (IsWithin q value choices k) s (choice_of q.game s c))
       → (side : Side) → side_at q s ≡ side
       → (¬ NeedsRank q value s) ⊎ IsCarriedBy side q value (Some choices) (carried k) s
   by-asked k s inside earlier all Max max = by-given k s inside earlier all max (slice_index_or choices s None) refl
   by-asked k s inside earlier all Min min = inr (λ c lc.
-      let asked : IsAsked q choices s c = (lc, always-asked (side_at q s) (slice_index_or choices s None) c min) in
+      let asked : MustBeRanked q choices s c = (lc, always-asked (side_at q s) (slice_index_or choices s None) c min) in
       asked-carries k s c inside earlier asked (all c asked))
 
   within-carried : (k s : ℕ) → s < states q → IsWithin q value choices k s → carried k s
@@ -91,7 +91,7 @@ module _ (q : Query) (values : List ℕ) (choices : List (Option ℕ)) (vouching
   -- and where it is carried, they lead there
   carried-leads : (k s : ℕ) → s < states q → ((t : ℕ) → t < states q → carried k t → IsWithin q value choices k t)
       → (side : Side) → side_at q s ≡ side → IsCarriedBy side q value (Some choices) (carried k) s → (c : ℕ)
-      → IsAsked q choices s c → LeadsInto value (IsWithin q value choices k) s (choice_of q.game s c)
+      → MustBeRanked q choices s c → LeadsInto value (IsWithin q value choices k) s (choice_of q.game s c)
   carried-leads k s inside earlier Max max (d, ld, h) c asked =
       let same : d ≡ c = Some-one (slice_index_or choices s None) d c
       (asked-given (side_at q s) (slice_index_or choices s None) d max h.may)

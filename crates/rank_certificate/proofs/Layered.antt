@@ -7,7 +7,7 @@ use Rattle.game_model.specs.declared.game.Side.TheVariants.{Max, Min}
 use Rattle.game_model.specs.Game.{choices_of, choice_of, no_edge}
 use Rattle.game_model.specs.Query.{Query, IsQuery, states, is_goal, is_dead, side_at}
 use Rattle.rank_certificate.specs.Ranking.{IsEnough, NeedsRank}
-use Rattle.rank_certificate.specs.Layers.{IsAsked, LeadsInto, IsWithin, AreLayered}
+use Rattle.rank_certificate.specs.Layers.{MustBeRanked, LeadsInto, IsWithin, AreLayered}
 use Rattle.rank_certificate.specs.Carrying.{Carries, IsCarriedBy, IsCarried, IsFirstCarrying, IsChosen, IsChosenAt}
 use Rattle.rank_certificate.specs.Carrying.{IsLayeredPlan}
 use Rattle.rank_certificate.proofs.States.{Some-one}
@@ -97,7 +97,7 @@ module _ (q : Query) (values : List ℕ) (choices : List (Option ℕ)) (ranks : 
 
   -- each choice that has to be ranked carries its state
   asked-carries : (s r : ℕ) → s < states q → slice_index ranks s ≡ suc r → (side : Side) → side_at q s ≡ side → (c : ℕ)
-      → IsAsked q choices s c → Carries q value None (IsCarried q value None r) s c
+      → MustBeRanked q choices s c → Carries q value None (IsCarried q value None r) s c
   asked-carries s r inside is Max max c asked =
       let first = given-first s r inside is max in
       let same : first.0 ≡ c = Some-one (slice_index_or choices s None) first.0 c first.1
@@ -129,7 +129,7 @@ module _ (q : Query) (values : List ℕ) (choices : List (Option ℕ)) (ranks : 
     -- a choice that gives the value, and leads into a layer of the choices, carries the state
     asked-on : (k s c : ℕ) → s < states q
         → ((t : ℕ) → t < states q → IsWithin q value choices k t → IsCarried q value None k t)
-        → IsAsked q choices s c → LeadsInto value (IsWithin q value choices k) s (choice_of q.game s c)
+        → MustBeRanked q choices s c → LeadsInto value (IsWithin q value choices k) s (choice_of q.game s c)
         → IsEnough value s (choice_of q.game s c) → Carries q value None (IsCarried q value None k) s c
     asked-on k s c inside earlier asked leads enough = record {
       may = enough;
@@ -141,11 +141,11 @@ module _ (q : Query) (values : List ℕ) (choices : List (Option ℕ)) (ranks : 
     by-asked : (k s r : ℕ) → s < states q
         → ((t : ℕ) → t < states q → IsWithin q value choices k t → IsCarried q value None k t)
         → slice_index ranks s ≡ suc r
-        → ((c : ℕ) → IsAsked q choices s c → LeadsInto value (IsWithin q value choices k) s (choice_of q.game s c))
+        → ((c : ℕ) → MustBeRanked q choices s c → LeadsInto value (IsWithin q value choices k) s (choice_of q.game s c))
         → (side : Side) → side_at q s ≡ side → IsCarriedBy side q value None (IsCarried q value None k) s
     by-asked k s r inside earlier is all Max max =
         let first = given-first s r inside is max in
-        let asked : IsAsked q choices s first.0 =
+        let asked : MustBeRanked q choices s first.0 =
         (first.2.inside, given-asked (side_at q s) (slice_index_or choices s None) first.0 max first.1) in (
           first.0,
           first.2.inside,
@@ -153,7 +153,7 @@ module _ (q : Query) (values : List ℕ) (choices : List (Option ℕ)) (ranks : 
               (asked-carries s r inside is Max max first.0 asked).may,
         )
     by-asked k s r inside earlier is all Min min = λ c lc.
-        let asked : IsAsked q choices s c = (lc, always-asked (side_at q s) (slice_index_or choices s None) c min) in
+        let asked : MustBeRanked q choices s c = (lc, always-asked (side_at q s) (slice_index_or choices s None) c min) in
         asked-on k s c inside earlier asked (all c asked) (all-carry s r inside is min c lc).may
 
     -- a layer of the choices has states of no greater rank

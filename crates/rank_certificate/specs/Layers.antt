@@ -11,8 +11,8 @@ abbrev pub IsRankable : Query → List ℕ → List (Option ℕ) → Type 0
 IsRankable q values choices = (ranks : List ℕ) × Ranked q values choices ranks
 
 -- The choice is in range and has to be ranked.
-abbrev pub IsAsked : Query → List (Option ℕ) → ℕ → ℕ → Type 0
-IsAsked q choices s c = (c < length (choices_of q.game s)) × HasToRank (side_at q s) (slice_index_or choices s None) c
+abbrev pub MustBeRanked : Query → List (Option ℕ) → ℕ → ℕ → Type 0
+MustBeRanked q choices s c = (c < length (choices_of q.game s)) × HasToRank (side_at q s) (slice_index_or choices s None) c
 
 -- A successor of the choice has a greater value, or it has an equal one and is one of these states.
 pub record LeadsInto (value : ℕ → ℕ) (among : ℕ → Type 0) (s : ℕ) (choice : Distribution) : Type 0 where
@@ -27,7 +27,7 @@ pub record LeadsInto (value : ℕ → ℕ) (among : ℕ → Type 0) (s : ℕ) (c
 unfoldable pub IsWithin : Query → (ℕ → ℕ) → List (Option ℕ) → ℕ → ℕ → Type 0
 IsWithin q value choices zero s = ¬ NeedsRank q value s
 IsWithin q value choices (suc r) s =
-    ¬ NeedsRank q value s ⊎ ((c : ℕ) → IsAsked q choices s c
+    ¬ NeedsRank q value s ⊎ ((c : ℕ) → MustBeRanked q choices s c
     → LeadsInto value (IsWithin q value choices r) s (choice_of q.game s c))
 
 -- The layer of a state is the least such r.

@@ -14,7 +14,7 @@ use Rattle.formula_reader.specs.declared.formula.Bound.TheVariants.{AskMax}
 use Rattle.verdicts.specs.Verdict.{is_asking}
 use Rattle.bracket_engine.specs.declared.bounds.Bracket.{Bracket}
 use Rattle.bracket_engine.specs.Bracket.{IsBracket}
-use Rattle.bracket_engine.specs.Found.{IsFound}
+use Rattle.bracket_engine.specs.Found.{IsBracketOfRun}
 use Rattle.bracket_engine.specs.Lower.{IsLowerTable}
 use Rattle.bracket_engine.specs.Stop.{AreSettledAt}
 use Rattle.output.specs.declared.status.Status.{Status}
@@ -27,7 +27,7 @@ never_settled : (lower upper : List ℕ) → AreSettledAt AskMax (0 ∷ []) (sli
 never_settled lower upper settled = let first = settled 0 0 (omega arith) in cc (first)
 
 pub all_made : (q : Query) (zero : List Bool) (asked : ℕ) (found : Bracket)
-    → IsFound q zero AskMax (0 ∷ []) asked found → found.stable ≡ false → found.rounds ≡ asked
+    → IsBracketOfRun q zero AskMax (0 ∷ []) asked found → found.stable ≡ false → found.rounds ≡ asked
 all_made q zero asked found is_found unstable = elim (cases_lt found.rounds asked) [
   | inl early ↦ absurd (by_end early)
   | inr late ↦ omega (arith, late, is_found.bounds.near.few)
@@ -43,7 +43,7 @@ all_made q zero asked found is_found unstable = elim (cases_lt found.rounds aske
 
 pub made : {X E : Type 0} (text : X → List ℕ) (ends : X → Status) (seed states asked : ℕ) (q : Query)
     (zero : List Bool) (found : Bracket) → q ≡ drawn_question seed states → IsZeroSet q zero
-    → IsFound q zero AskMax (0 ∷ []) asked found → (result : Result X E)
+    → IsBracketOfRun q zero AskMax (0 ∷ []) asked found → (result : Result X E)
     → IfOk result (λ answer. text answer ≡ summary_text seed states (count_by (λ marked. marked) zero) found.stable
     found.plan.lower.items found.plan.upper.items)
     → IfOk result (λ answer. ends answer ≡ status_made found.stable)
@@ -52,7 +52,7 @@ made text ends seed states asked q zero found same is_zero is_found (Ok answer) 
   zero = zero;
   is_zero = subst (λ (p : Query). IsZeroSet p zero) same is_zero;
   found = found;
-  is_found = subst (λ (p : Query). IsFound p zero AskMax (0 ∷ []) asked found) same is_found;
+  is_found = subst (λ (p : Query). IsBracketOfRun p zero AskMax (0 ∷ []) asked found) same is_found;
   written = written;
   ends = ended;
   completed = all_made q zero asked found is_found;
@@ -114,7 +114,7 @@ UppersAgree = (q : Query) (zero : List Bool) (bound other_bound : Bound) (initia
 
 -- the bracket of a run that is settled
 stable-bracket : (q : Query) (zero : List Bool) (asked : ℕ) (found : Bracket) → found.stable ≡ true
-    → IsFound q zero AskMax (0 ∷ []) asked found
+    → IsBracketOfRun q zero AskMax (0 ∷ []) asked found
     → IsBracket q zero AskMax (0 ∷ []) asked found.base.items found.plan.upper.items found.rounds true
 stable-bracket q zero asked found stable h = subst (λ (b : Bool).
     IsBracket q zero AskMax (0 ∷ []) asked found.base.items found.plan.upper.items found.rounds b) stable h.bounds
@@ -129,8 +129,8 @@ settled-agree bases lowers uppers seed states asked other_asked text other a b =
     let stable_y = settled-stable y.stable b.ends in
     let summary = summary_text seed states (count_by (λ marked. marked) b.zero) in
     let zeros = same_zero q a.zero b.zero a.is_zero b.is_zero in
-    let beside : IsFound q a.zero AskMax (0 ∷ []) other_asked y =
-    subst (λ (z : List Bool). IsFound q z AskMax (0 ∷ []) other_asked y) (sym zeros) b.is_found in
+    let beside : IsBracketOfRun q a.zero AskMax (0 ∷ []) other_asked y =
+    subst (λ (z : List Bool). IsBracketOfRun q z AskMax (0 ∷ []) other_asked y) (sym zeros) b.is_found in
     let of_x = stable-bracket q a.zero asked x stable_x a.is_found in
     let of_y = stable-bracket q a.zero other_asked y stable_y beside in
     let base : x.base.items ≡ y.base.items = bases q a.zero a.zero AskMax AskMax (0 ∷ []) (0 ∷ []) asked other_asked

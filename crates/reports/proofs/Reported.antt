@@ -24,9 +24,9 @@ use Rattle.formula_reader.specs.declared.formula.PathKind.{PathKind}
 use Rattle.formula_reader.specs.declared.formula.PathKind.TheVariants.{Until, Within, Next, Always}
 use Rattle.rpatl_syntax.specs.Dual.{IsAtMostOne, dual_bound, answered_by, answered}
 use Rattle.output.specs.Printed.{is_mirrored, status_of, output_of}
-use Rattle.bracket_engine.specs.Found.{IsFound}
+use Rattle.bracket_engine.specs.Found.{IsBracketOfRun}
 use Rattle.bracket_engine.proofs.Opening.{left-open}
-use Rattle.reports.specs.Reports.{IsShown, IsBracketReport}
+use Rattle.reports.specs.Reports.{IsPrintedPlan, IsBracketReport}
 use Rattle.reports.proofs.Limits.{plan_line}
 use Rattle.reports.proofs.Valued.{told}
 use Rattle.output.specs.Outputs.{output_text, IsInLimits}
@@ -77,8 +77,8 @@ pub record IsReady (q : Query) (initial : List ℕ) (f : Tree) (check : Check) (
   pub posed : IsQuery q
   pub inside : All (λ s. s < states q) initial
   pub is_zero : IsZeroSet q zero
-  pub is_found : IsFound q zero (answered f).bound initial check.rounds found
-  pub shown : IsShown q check.traps found.plan plan
+  pub is_found : IsBracketOfRun q zero (answered f).bound initial check.rounds found
+  pub shown : IsPrintedPlan q check.traps found.plan plan
   pub lists : HasStates plan (states q)
   pub sound : IsSoundPlan q plan
   pub passes : Passes q plan

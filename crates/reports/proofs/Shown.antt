@@ -10,13 +10,13 @@ use Rattle.plan_text.specs.Entries.{HasStates, greatest_rank}
 use Rattle.certificate_audit.specs.Accepted.{Passes}
 use Rattle.bracket_engine.specs.declared.bounds.Bracket.{Bracket}
 use Rattle.bracket_engine.specs.Choices.{AreChoices}
-use Rattle.bracket_engine.specs.Found.{IsFound}
-use Rattle.reports.specs.Reports.{IsShown}
+use Rattle.bracket_engine.specs.Found.{IsBracketOfRun}
+use Rattle.reports.specs.Reports.{IsPrintedPlan}
 use Rattle.reports.proofs.Limits.{IsPrintable}
 
 module _ (q : Query) (zero : List Bool) (bound : Bound) (initial : List ℕ) (asked : ℕ) (traps : Bool)
     (found : Bracket) (plan : Plan)
-    (h : IsFound q zero bound initial asked found) (shown : IsShown q traps found.plan plan) where
+    (h : IsBracketOfRun q zero bound initial asked found) (shown : IsPrintedPlan q traps found.plan plan) where
   pub shown-above : IsBelow q (slice_index found.base.items) (slice_index plan.lower.items)
   shown-above = subst (λ (p : Plan). IsBelow q (slice_index found.base.items) (slice_index p.lower.items))
       (sym shown.others) h.lower.above

@@ -16,7 +16,7 @@ use Rattle.verdicts.proofs.Fractions.{right}
 use Rattle.verdicts.specs.declared.report.How.{How}
 use Rattle.output.specs.Printed.{is_mirrored, status_of}
 use Rattle.output.specs.declared.status.Status.{Status}
-use Rattle.reports.specs.Valued.{asked_value, IsPrintedOf, KeepsAway, IsTold}
+use Rattle.reports.specs.Valued.{asked_value, IsPrintedOf, KeepsAway, IsSoundReport}
 use Rattle.reports.proofs.Limits.{plan_line}
 
 printed-below : (mirrored : Bool) (l u top v : ℕ) → l * top ≤ unit * v → unit * v ≤ u * top
@@ -63,7 +63,7 @@ module _ (q : Query) (posed : IsQuery q) (f : Tree) (plan : Plan) (sound : IsSou
 
   pub told : (initial : List ℕ) (status : Status) → All (λ s. s < states q) initial
       → status ≡ status_of (map (plan_line f how plan) initial)
-      → IsTold q initial f plan (map (plan_line f how plan) initial) status
+      → IsSoundReport q initial f plan (map (plan_line f how plan) initial) status
   told initial status inside ended = record {
     inside = inside;
     sound = sound;

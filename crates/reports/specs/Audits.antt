@@ -11,14 +11,14 @@ use Rattle.verdicts.specs.declared.verdict.Verdict.TheVariants.{Undecided}
 use Rattle.rpatl_syntax.specs.Dual.{answered}
 use Rattle.output.specs.Printed.{output_of}
 use Rattle.output.specs.declared.status.Status.{Status}
-use Rattle.reports.specs.Valued.{IsTold}
+use Rattle.reports.specs.Valued.{IsSoundReport}
 
 -- The text and the status say of the initial states what the certificate says, and that is right. For `G` the
 -- certificate is that of the dual.
 pub record IsAudited (q : Query) (initial : List ℕ) (f : Tree) (plan : Plan) (text : List ℕ)
     (status : Status) : Type 0 where
   pub posed : IsQuery q
-  pub told : IsTold q initial f plan (output_of false f Audited initial plan).lines status
+  pub told : IsSoundReport q initial f plan (output_of false f Audited initial plan).lines status
   pub written : text ≡ report (output_of false f Audited initial plan).lines
   pub lines : All IsLine (output_of false f Audited initial plan).lines
   -- Undecided is said only if the bounds leave the threshold open.

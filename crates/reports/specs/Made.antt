@@ -6,7 +6,7 @@ use Rattle.drawn_game.specs.Rules.{drawn_game}
 use Rattle.drawn_game.specs.Asked.{question_of}
 use Rattle.formula_reader.specs.declared.formula.Bound.TheVariants.{AskMax}
 use Rattle.bracket_engine.specs.declared.bounds.Bracket.{Bracket}
-use Rattle.bracket_engine.specs.Found.{IsFound}
+use Rattle.bracket_engine.specs.Found.{IsBracketOfRun}
 use Rattle.output.specs.declared.status.Status.{Status}
 use Rattle.output.specs.declared.status.Status.TheVariants.{Fine, SomeUndecided}
 use Rattle.output.specs.Refusals.{numbered}
@@ -42,7 +42,7 @@ pub record IsMade (seed states asked : ℕ) (text : List ℕ) (status : Status) 
   pub zero : List Bool
   pub is_zero : IsZeroSet (drawn_question seed states) zero
   pub found : Bracket
-  pub is_found : IsFound (drawn_question seed states) zero AskMax (0 ∷ []) asked found
+  pub is_found : IsBracketOfRun (drawn_question seed states) zero AskMax (0 ∷ []) asked found
   pub written : text ≡ summary_text seed states (count_by (λ marked. marked) zero) found.stable
       found.plan.lower.items found.plan.upper.items
   pub ends : status ≡ status_made found.stable

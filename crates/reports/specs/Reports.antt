@@ -12,14 +12,14 @@ use Rattle.verdicts.specs.Open.{IsLeftOpen}
 use Rattle.verdicts.specs.declared.report.How.TheVariants.{Rounds}
 use Rattle.verdicts.specs.declared.verdict.Verdict.TheVariants.{Undecided}
 use Rattle.bracket_engine.specs.declared.bounds.Bracket.{Bracket}
-use Rattle.bracket_engine.specs.Found.{IsFound}
+use Rattle.bracket_engine.specs.Found.{IsBracketOfRun}
 use Rattle.trap_sets.specs.Lowered.{IsLoweredTable}
 use Rattle.rpatl_syntax.specs.Dual.{answered}
 use Rattle.command_words.specs.Words.{Check}
 use Rattle.output.specs.Outputs.{output_text, IsInLimits}
 use Rattle.output.specs.Printed.{output_of}
 use Rattle.output.specs.declared.status.Status.{Status}
-use Rattle.reports.specs.Valued.{IsTold}
+use Rattle.reports.specs.Valued.{IsSoundReport}
 
 -- 1. What is printed of what was found.
 
@@ -29,7 +29,7 @@ IsUpperShown q true replies upper shown = IsLoweredTable q replies upper shown
 IsUpperShown q false replies upper shown = shown ≡ upper
 
 -- The plan that is shown is the one that was found, but its upper table is lowered if that is asked for.
-pub record IsShown (q : Query) (traps : Bool) (found plan : Plan) : Type 0 where
+pub record IsPrintedPlan (q : Query) (traps : Bool) (found plan : Plan) : Type 0 where
   pub others : plan ≡ record {
     lower = found.lower;
     choices = found.choices;
@@ -52,11 +52,11 @@ pub record IsBracketReport (q : Query) (initial : List ℕ) (f : Tree) (check : 
   pub zero : List Bool
   pub is_zero : IsZeroSet q zero
   pub found : Bracket
-  pub is_found : IsFound q zero (answered f).bound initial check.rounds found
+  pub is_found : IsBracketOfRun q zero (answered f).bound initial check.rounds found
   pub plan : Plan
-  pub shown : IsShown q check.traps found.plan plan
+  pub shown : IsPrintedPlan q check.traps found.plan plan
   pub lists : HasStates plan (states q)
-  pub told : IsTold q initial f plan (output_of check.plan f (Rounds found.rounds) initial plan).lines status
+  pub told : IsSoundReport q initial f plan (output_of check.plan f (Rounds found.rounds) initial plan).lines status
   pub passes : Passes q plan
   pub written : text ≡ output_text (output_of check.plan f (Rounds found.rounds) initial plan)
   pub limits : IsInLimits (output_of check.plan f (Rounds found.rounds) initial plan)

@@ -14,7 +14,7 @@ use Rattle.verdicts.specs.declared.verdict.Verdict.TheVariants.{Undecided}
 use Rattle.output.specs.Outputs.{output_text, IsInLimits}
 use Rattle.output.specs.Printed.{output_of}
 use Rattle.output.specs.declared.status.Status.{Status}
-use Rattle.reports.specs.Valued.{IsTold}
+use Rattle.reports.specs.Valued.{IsSoundReport}
 
 -- The text and the status are the answer: they are those of a plan that passes an audit and is sound. For `G` the
 -- question is that of its dual, and the bounds are mirrored when they are printed.
@@ -23,7 +23,7 @@ pub record IsSolved (q : Query) (initial : List ℕ) (f : Tree) (asked : Bool) (
   pub posed : IsQuery q
   pub plan : Plan
   pub lists : HasStates plan (states q)
-  pub told : IsTold q initial f plan (output_of asked f Solved initial plan).lines status
+  pub told : IsSoundReport q initial f plan (output_of asked f Solved initial plan).lines status
   pub passes : Passes q plan
   -- The lower bound is 1 exactly at the almost-sure states, and the upper bound is 0 exactly where every k-step value
   -- is 0.

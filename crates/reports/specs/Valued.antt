@@ -30,7 +30,7 @@ pub record KeepsAway (q : Query) (plan : Plan) : Type 0 where
   pub avoided : IsAvoidedAgainstAll q plan.choices.items (λ s. unit - slice_index plan.lower.items s)
 
 -- What the lines and the plan say of the initial states is right, and the status is that of the lines.
-pub record IsTold (q : Query) (initial : List ℕ) (f : Tree) (plan : Plan) (lines : List ReportLine)
+pub record IsSoundReport (q : Query) (initial : List ℕ) (f : Tree) (plan : Plan) (lines : List ReportLine)
     (status : Status) : Type 0 where
   pub inside : All (λ s. s < states q) initial
   -- The minimiser's replies hold every strategy of the maximiser to the upper bounds. The maximiser's choices reach the

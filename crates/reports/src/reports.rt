@@ -10,7 +10,7 @@ ghost use Rattle.plan_text.specs.Entries.{HasStates, greatest_rank};
 ghost use Rattle.certificate_audit.specs.Accepted.{Passes};
 ghost use Rattle.command_words.specs.Words.{AreInRange, check_of};
 ghost use Rattle.output.specs.Printed.{certificate_of, output_of, status_of};
-ghost use Rattle.reports.specs.Reports.{IsBracketReport, IsShown};
+ghost use Rattle.reports.specs.Reports.{IsBracketReport, IsPrintedPlan};
 ghost use Rattle.output.specs.Outputs.{certificate_part, output_text};
 ghost use Rattle.output.specs.Status.{IsAnswer};
 
@@ -95,7 +95,7 @@ fn shown(
     requires predecessors { ArePredecessors question.now.game predecessors.now }
     requires lists { HasStates found (states question.now) }
     requires passes { Passes question.now found }
-    ensures shown { IfOk result (λ plan. IsShown question.now traps found plan) }
+    ensures shown { IfOk result (λ plan. IsPrintedPlan question.now traps found plan) }
     ensures lists { IfOk result (λ plan. HasStates plan (states question.now)) }
     ensures passes { IfOk result (λ plan. Passes question.now plan) }
 {

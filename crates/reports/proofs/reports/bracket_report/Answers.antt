@@ -6,7 +6,7 @@ use Rattle.formula_reader.specs.Formula.{Tree, tree_of}
 use Rattle.command_words.specs.Words.{check_of}
 use Rattle.rpatl_syntax.specs.Dual.{answered}
 use Rattle.certificate_audit.proofs.Soundness.{sound}
-use Rattle.bracket_engine.specs.Found.{IsFound}
+use Rattle.bracket_engine.specs.Found.{IsBracketOfRun}
 use Rattle.verdicts.specs.declared.report.How.TheVariants.{Rounds}
 use Rattle.reports.proofs.Limits.{plan_line, plan-units, printed-in_limits}
 use Rattle.reports.proofs.Reported.{all-left_open, reported, verdict-answered, plan_verdict}
@@ -26,8 +26,8 @@ returns-clause-report g c =
     let initial = c.args.posed.now.initial.items in
     let check = check_of c.args.check.now in
     let asked = c.args.check.now.rounds in
-    let P : Bound → Type 0 = λ b. IsFound q zero b initial asked found in
-    let is_found : IsFound q zero bound initial asked found = subst P (ap (λ (t : Tree). t.bound) c.requires.same)
+    let P : Bound → Type 0 = λ b. IsBracketOfRun q zero b initial asked found in
+    let is_found : IsBracketOfRun q zero bound initial asked found = subst P (ap (λ (t : Tree). t.bound) c.requires.same)
     (rw c.deref-initial.ensures.value at c.in_ok-bracketed.ensures.found) in
     let shown = c.in_ok-plan.ensures.shown in
     let lists = c.in_ok-plan.ensures.lists in
