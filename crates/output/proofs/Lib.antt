@@ -1,8 +1,8 @@
 pub mod Labelled
 pub mod NoLineFeed
-pub mod OneCause
+pub mod CauseTextInjective
 pub mod OneOutput
-pub mod OneRefusal
+pub mod RefusalTextInjective
 pub mod Passing
 pub mod Places
 pub mod PlainParts

@@ -1,5 +1,5 @@
 pub mod Caused
-pub mod InFull
+pub mod Printable
 pub mod Outputs
 pub mod Printed
 pub mod Refusals

@@ -1,6 +1,6 @@
 //! This module has what is true of every refusal, because its types bound its numbers.
 
-ghost use Rattle.output.specs.InFull.{IsInFull, ChoiceInFull, TraInFull, LabInFull, CertificateInFull};
+ghost use Rattle.output.specs.Printable.{IsPrintable, ChoicePrintable, TraPrintable, LabPrintable, CertificatePrintable};
 
 use crate::refusal::Refusal;
 use certificate_audit::AuditFault;
@@ -9,31 +9,31 @@ use label_lines::LabCause;
 use transition_lines::TraCause;
 
 fn known_of_number(number: u32)
-    ensures { IsInFull number }
+    ensures { IsPrintable number }
 {}
 
 fn known_of_choice(fault: ChoiceFault)
-    ensures { ChoiceInFull fault }
+    ensures { ChoicePrintable fault }
 {}
 
 fn known_of_tra(cause: TraCause)
-    ensures { TraInFull cause }
+    ensures { TraPrintable cause }
 {}
 
 fn known_of_lab(cause: LabCause)
-    ensures { LabInFull cause }
+    ensures { LabPrintable cause }
 {}
 
 fn known_of_certificate(fault: AuditFault)
-    ensures { CertificateInFull fault }
+    ensures { CertificatePrintable fault }
 {}
 
 impl Refusal {
-    ghost use Rattle.output.specs.InFull.{RefusalInFull};
+    ghost use Rattle.output.specs.Printable.{RefusalPrintable};
 
     /// Tells a proof that the numbers of a refusal are written in full. It does nothing.
     pub fn known(&self)
-        ensures { RefusalInFull self.now }
+        ensures { RefusalPrintable self.now }
     {
         match self {
             Refusal::OfTra(fault) => {

@@ -3,7 +3,7 @@
 ghost use Rattle.std.specs.Prelude.{◌≡◌};
 ghost use Rattle.output.specs.Outputs.{Output, output_text, IsWholeOutput};
 ghost use Rattle.output.specs.declared.refusal.Refusal.{Refusal};
-ghost use Rattle.output.specs.InFull.{RefusalInFull};
+ghost use Rattle.output.specs.Printable.{RefusalPrintable};
 ghost use Rattle.output.specs.Refusals.{refusal_text};
 
 use plan_text::laws::certificates_have_one_reading;
@@ -22,6 +22,6 @@ pub fn outputs_have_one_reading()
 
 /// No two refusals have the same line if their numbers have at most 64 digits. Their types allow at most 39.
 pub fn refusals_have_one_reading()
-    ensures { (refusal other : Refusal) → RefusalInFull refusal → RefusalInFull other
+    ensures { (refusal other : Refusal) → RefusalPrintable refusal → RefusalPrintable other
         → refusal_text refusal ≡ refusal_text other → refusal ≡ other }
 {}

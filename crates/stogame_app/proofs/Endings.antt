@@ -7,7 +7,7 @@ use Rattle.command_words.specs.Words.{Command, OfMake, AreCommand}
 use Rattle.output.specs.declared.refusal.Text.TheVariants.{Cert}
 use Rattle.output.specs.declared.refusal.Refusal.{Refusal}
 use Rattle.output.specs.declared.refusal.Refusal.TheVariants.{OfCertificate, TooLong}
-use Rattle.output.specs.InFull.{RefusalInFull}
+use Rattle.output.specs.Printable.{RefusalPrintable}
 use Rattle.output.specs.Refusals.{refusal_text}
 use Rattle.inputs.specs.declared.load.End.{End}
 use Rattle.inputs.specs.declared.load.End.TheVariants as end
@@ -94,7 +94,7 @@ module _ {words : List (List ℕ)} {holding : Option Holding} {taken : ℕ} (old
   report_ends text SomeUndecided answer report grows = record { text = text; is = report; grows = grows }
   report_ends text status answer report grows = absurd answer
 
-  pub refusal_ends : (refusal : Refusal) → RefusesWords words holding taken refusal → RefusalInFull refusal
+  pub refusal_ends : (refusal : Refusal) → RefusesWords words holding taken refusal → RefusalPrintable refusal
       → GrowsBy old new (refusal_text refusal) → IsEnding words holding taken old new (refused_status refusal)
   refusal_ends refusal refused in_full grows = elim (refused_is refusal) [
     | inl is ↦ subst (λ (s : Status). IsEnding words holding taken old new s) (sym is) (record {

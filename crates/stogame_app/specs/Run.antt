@@ -8,7 +8,7 @@ use Rattle.output.specs.declared.refusal.Text.{Text}
 use Rattle.output.specs.declared.refusal.Refusal.{Refusal}
 use Rattle.output.specs.declared.refusal.Refusal.TheVariants.{TooLong}
 use Rattle.output.specs.Caused.{IsCaused}
-use Rattle.output.specs.InFull.{RefusalInFull}
+use Rattle.output.specs.Printable.{RefusalPrintable}
 use Rattle.output.specs.Refusals.{refusal_text, usage_text}
 use Rattle.inputs.specs.declared.load.End.{End}
 use Rattle.inputs.specs.declared.load.End.TheVariants as end
@@ -43,7 +43,7 @@ pub record IsRefusalOfWords (words : List (List ℕ)) (holding : Option Holding)
     (status : Status) : Type 0 where
   pub refusal : Refusal
   pub refused : RefusesWords words holding taken refusal
-  pub in_full : RefusalInFull refusal
+  pub in_full : RefusalPrintable refusal
   pub line : text ≡ refusal_text refusal
   pub ends : status ≡ refused_status refusal
 

@@ -25,22 +25,22 @@ use Rattle.output.specs.declared.refusal.Refusal.TheVariants.{OfTra, OfLab, OfOw
 use Rattle.output.specs.declared.refusal.Refusal.TheVariants.{WrongKind, OfCertificate, OfValues, TooLong}
 use Rattle.output.specs.Refusals.{refused_line, certificate_refused, refusal_text, question_line, question_text}
 use Rattle.output.specs.Refusals.{plan_cause_text, upper_text, ranks_text}
-use Rattle.output.specs.InFull.{IsInFull, CertificateInFull, RefusalInFull}
+use Rattle.output.specs.Printable.{IsPrintable, CertificatePrintable, RefusalPrintable}
 use Rattle.verdicts.proofs.Numbers.{number-one}
 use Rattle.output.proofs.Labelled.{at}
-use Rattle.output.proofs.OneCause.{tra-one, lab-one, values-one, values-not_long, formula-one, question-one}
-use Rattle.output.proofs.OneCause.{question-not_kind, tra-not_long, lab-not_long, plan_cause-one, upper-one}
-use Rattle.output.proofs.OneCause.{ranks-one, plan_cause-not_upper, plan_cause-not_ranks, upper-not_ranks}
-use Rattle.output.proofs.OneCause.{plan_cause-not_long, upper-not_long, ranks-not_long}
+use Rattle.output.proofs.CauseTextInjective.{tra-one, lab-one, values-one, values-not_long, formula-one, question-one}
+use Rattle.output.proofs.CauseTextInjective.{question-not_kind, tra-not_long, lab-not_long, plan_cause-one, upper-one}
+use Rattle.output.proofs.CauseTextInjective.{ranks-one, plan_cause-not_upper, plan_cause-not_ranks, upper-not_ranks}
+use Rattle.output.proofs.CauseTextInjective.{plan_cause-not_long, upper-not_long, ranks-not_long}
 
 -- a number, and a cause to the end of the line
-numbered_cause-one : (m n : ℕ) (cause other : List ℕ) → IsInFull m → IsInFull n
+numbered_cause-one : (m n : ℕ) (cause other : List ℕ) → IsPrintable m → IsPrintable n
     → decimal m ++ 32 ∷ (cause ++ codes "\n") ≡ decimal n ++ 32 ∷ (other ++ codes "\n") → (m ≡ n) × (cause ≡ other)
 numbered_cause-one m n cause other hm hn e =
     let parts = number-one m n (cause ++ codes "\n") (other ++ codes "\n") hm hn e in
     (parts.0, append_cancel_right cause other (codes "\n") parts.1)
 
-refused_line-one : (text another : Text) (m n : ℕ) (cause other : List ℕ) → IsInFull m → IsInFull n
+refused_line-one : (text another : Text) (m n : ℕ) (cause other : List ℕ) → IsPrintable m → IsPrintable n
     → refused_line text m cause ≡ refused_line another n other → (text ≡ another) × (m ≡ n) × (cause ≡ other)
 refused_line-one Tra Tra m n cause other hm hn e =
     let parts = numbered_cause-one m n cause other hm hn (append_cancel_left (codes "refused tra line ") _ _ e) in
@@ -87,7 +87,7 @@ cause_of (audit.Text fault) = plan_cause_text fault.cause
 cause_of (audit.Upper fault) = upper_text fault.state fault.cause
 cause_of (audit.Ranks fault) = ranks_text fault.state fault.cause
 
-line_in_full : (fault : AuditFault) → CertificateInFull fault → IsInFull (line_of fault)
+line_in_full : (fault : AuditFault) → CertificatePrintable fault → IsPrintable (line_of fault)
 line_in_full (audit.Text fault) h = h
 line_in_full (audit.Upper fault) h = omega arith
 line_in_full (audit.Ranks fault) h = omega arith
@@ -98,7 +98,7 @@ in_parts (audit.Upper fault) = refl
 in_parts (audit.Ranks fault) = refl
 
 -- the same number and the same cause
-fault-one : (a b : AuditFault) → CertificateInFull a → CertificateInFull b → line_of a ≡ line_of b
+fault-one : (a b : AuditFault) → CertificatePrintable a → CertificatePrintable b → line_of a ≡ line_of b
     → cause_of a ≡ cause_of b → a ≡ b
 fault-one (audit.Text fault) (audit.Text other) ha hb line cause =
     ap (λ (f : PlanFault). audit.Text f) (plan_fault fault other line (plan_cause-one fault.cause other.cause cause))
@@ -121,7 +121,7 @@ fault-one (audit.Ranks fault) (audit.Ranks other) ha hb line cause =
     let same = ranks-one fault.state other.state fault.cause other.cause ha.0 hb.0 ha.1 hb.1 cause in
     ap (λ (f : RankFault). audit.Ranks f) (rank_fault fault other same.0 same.1)
 
-certificate-one : (a b : AuditFault) → CertificateInFull a → CertificateInFull b
+certificate-one : (a b : AuditFault) → CertificatePrintable a → CertificatePrintable b
     → certificate_refused a ≡ certificate_refused b → a ≡ b
 certificate-one a b ha hb e =
     let parts = refused_line-one Cert Cert (line_of a) (line_of b) (cause_of a) (cause_of b) (line_in_full a ha)
@@ -129,8 +129,8 @@ certificate-one a b ha hb e =
     fault-one a b ha hb parts.1 parts.2
 
 -- it is the line of no other text
-not_certificate : (text : Text) (line : ℕ) (cause : List ℕ) (fault : AuditFault) → (text ≡ Cert → ⊥) → IsInFull line
-    → CertificateInFull fault → refused_line text line cause ≡ certificate_refused fault → ⊥
+not_certificate : (text : Text) (line : ℕ) (cause : List ℕ) (fault : AuditFault) → (text ≡ Cert → ⊥) → IsPrintable line
+    → CertificatePrintable fault → refused_line text line cause ≡ certificate_refused fault → ⊥
 not_certificate text line cause fault other hl hf e =
     let parts = refused_line-one text Cert line (line_of fault) cause (cause_of fault) hl (line_in_full fault hf)
     (e ∙ in_parts fault) in
@@ -142,7 +142,7 @@ cause-not_long (audit.Upper fault) e = upper-not_long fault.state fault.cause e
 cause-not_long (audit.Ranks fault) e = ranks-not_long fault.state fault.cause e
 
 -- nor that it is too long
-certificate-not_long : (fault : AuditFault) (text : Text) → CertificateInFull fault
+certificate-not_long : (fault : AuditFault) (text : Text) → CertificatePrintable fault
     → certificate_refused fault ≡ refused_line text 0 (codes "TooLong") → ⊥
 certificate-not_long fault text hf e =
     let parts = refused_line-one Cert text (line_of fault) 0 (cause_of fault) (codes "TooLong") (line_in_full fault hf)
@@ -191,7 +191,7 @@ question_cause-one : (cause other : List ℕ) → question_line cause ≡ questi
 question_cause-one cause other e =
     append_cancel_right cause other (codes "\n") (append_cancel_left (codes "refused question line 0 ") _ _ e)
 
-pub refusal-one : (a b : Refusal) → RefusalInFull a → RefusalInFull b → refusal_text a ≡ refusal_text b → a ≡ b
+pub refusal-one : (a b : Refusal) → RefusalPrintable a → RefusalPrintable b → refusal_text a ≡ refusal_text b → a ≡ b
 refusal-one (OfTra fault) (OfTra other) ha hb e =
     let parts = refused_line-one Tra Tra fault.line other.line _ _ ha.0 hb.0 e in
     ap OfTra (tra_fault fault other parts.1 (tra-one fault.cause other.cause ha.1 hb.1 parts.2))

@@ -24,7 +24,7 @@ use Rattle.values_reader.specs.declared.fault.ValuesCause.{ValuesCause}
 use Rattle.values_reader.specs.declared.fault.ValuesCause.TheVariants as values
 use Rattle.output.specs.Refusals.{number_text, choice_text, tra_text, lab_text, values_text, formula_text}
 use Rattle.output.specs.Refusals.{question_text, plan_cause_text, upper_text, ranks_text}
-use Rattle.output.specs.InFull.{IsInFull, AreInFull, ChoiceInFull, TraInFull, LabInFull, UpperInFull, RanksInFull}
+use Rattle.output.specs.Printable.{IsPrintable, ArePrintable, ChoicePrintable, TraPrintable, LabPrintable, UpperPrintable, RanksPrintable}
 use Rattle.output.proofs.Labelled.{at, numbered-one, pair-one, place-onto}
 
 number_fault-one : (a b : NumberFault) → number_text a ≡ number_text b → a ≡ b
@@ -76,7 +76,7 @@ pub values-not_long : (cause : ValuesCause) → values_text cause ≡ codes "Too
 values-not_long values.BadField e = omega (arith, at e 0)
 values-not_long cause e = omega (arith, at e 0)
 
-pub lab-one : (a b : LabCause) → LabInFull a → LabInFull b → lab_text a ≡ lab_text b → a ≡ b
+pub lab-one : (a b : LabCause) → LabPrintable a → LabPrintable b → lab_text a ≡ lab_text b → a ≡ b
 lab-one lab.OutOfMemory lab.OutOfMemory ha hb e = refl
 lab-one lab.NoHeader lab.NoHeader ha hb e = refl
 lab-one lab.BadHeader lab.BadHeader ha hb e = refl
@@ -91,7 +91,7 @@ lab-one (lab.TwoOwners state) (lab.TwoOwners other) ha hb e =
     cc
 lab-one a b ha hb e = absurd (omega (arith, at e 0, at e 3, at e 6))
 
-choice-one : (m n i j : ℕ) (a b : ChoiceFault) → AreInFull m n → AreInFull i j → ChoiceInFull a → ChoiceInFull b
+choice-one : (m n i j : ℕ) (a b : ChoiceFault) → ArePrintable m n → ArePrintable i j → ChoicePrintable a → ChoicePrintable b
     → choice_text m n a ≡ choice_text i j b → (m ≡ i) × (n ≡ j) × (a ≡ b)
 choice-one m n i j choice.OutOfMemory choice.OutOfMemory h k ha hb e =
     let place =
@@ -120,7 +120,7 @@ choice-alone state k (choice.BadSum sum denominator) tra.OutOfMemory other e = o
 choice-alone state k fault (tra.Choice m n another) other e = other
 choice-alone state k fault cause other e = omega (arith, at e 0, at e 3, at e 11)
 
-pub tra-one : (a b : TraCause) → TraInFull a → TraInFull b → tra_text a ≡ tra_text b → a ≡ b
+pub tra-one : (a b : TraCause) → TraPrintable a → TraPrintable b → tra_text a ≡ tra_text b → a ≡ b
 tra-one (tra.Choice state k fault) (tra.Choice m n other) ha hb e =
     let same = choice-one state k m n fault other ha.0 hb.0 ha.1 hb.1 e in
     cc
@@ -178,7 +178,7 @@ plan_cause-one plan.NumberOutOfRange plan.NumberOutOfRange e = refl
 plan_cause-one plan.MissingLine plan.MissingLine e = refl
 plan_cause-one a b e = absurd (omega (arith, at e 0, at e 1))
 
-pub upper-one : (m n : ℕ) (a b : UpperCause) → IsInFull m → IsInFull n → UpperInFull a → UpperInFull b
+pub upper-one : (m n : ℕ) (a b : UpperCause) → IsPrintable m → IsPrintable n → UpperPrintable a → UpperPrintable b
     → upper_text m a ≡ upper_text n b → (m ≡ n) × (a ≡ b)
 upper-one m n upper.OverOne upper.OverOne hm hn ha hb e = (numbered-one (codes "OverOne state ") m n hm hn e, refl)
 upper-one m n upper.Goal upper.Goal hm hn ha hb e = (numbered-one (codes "Goal state ") m n hm hn e, refl)
@@ -190,7 +190,7 @@ upper-one m n upper.NoReply upper.NoReply hm hn ha hb e = (numbered-one (codes "
 upper-one m n upper.Reply upper.Reply hm hn ha hb e = (numbered-one (codes "Reply state ") m n hm hn e, refl)
 upper-one m n a b hm hn ha hb e = absurd (omega (arith, at e 0))
 
-pub ranks-one : (m n : ℕ) (a b : RankCause) → IsInFull m → IsInFull n → RanksInFull a → RanksInFull b
+pub ranks-one : (m n : ℕ) (a b : RankCause) → IsPrintable m → IsPrintable n → RanksPrintable a → RanksPrintable b
     → ranks_text m a ≡ ranks_text n b → (m ≡ n) × (a ≡ b)
 ranks-one m n ranks.Value ranks.Value hm hn ha hb e = (numbered-one (codes "Value state ") m n hm hn e, refl)
 ranks-one m n ranks.Choice ranks.Choice hm hn ha hb e = (numbered-one (codes "Choice state ") m n hm hn e, refl)
