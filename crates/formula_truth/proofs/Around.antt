@@ -12,9 +12,9 @@ use Rattle.verdicts.specs.declared.verdict.Verdict.TheVariants.{Yes, No, Undecid
 use Rattle.formula_sets.specs.Posing.{Model}
 use Rattle.formula_truth.specs.declared.way.Way.{Way}
 use Rattle.formula_truth.specs.Truth.{Valuation, IsTruth, states, holds}
-use Rattle.formula_truth.specs.Bands.{Bands, Known, known, negated, both, either, verdict_at}
+use Rattle.formula_truth.specs.ThreeValued.{Bands, Known, known, negated, both, either, verdict_at}
 use Rattle.verdicts.specs.Verdict.{is_yes, is_no}
-use Rattle.formula_truth.specs.Runs.{AreFound}
+use Rattle.formula_truth.specs.InnerRuns.{AreFound}
 use Rattle.formula_truth.specs.Sound.{IsAround, IsRightOf}
 use Rattle.formula_truth.proofs.Widened.{negated-around}
 use Rattle.formula_truth.proofs.Valuation.{right-by}

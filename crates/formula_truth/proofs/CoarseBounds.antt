@@ -16,9 +16,9 @@ use Rattle.bounded_rounds.specs.Steps.{IsSweep, down_from, up_from}
 use Rattle.verdicts.specs.declared.report.How.TheVariants.{Steps}
 use Rattle.determinacy.proofs.Zeros.{questions-have_zero_sets}
 use Rattle.formula_truth.specs.Truth.{states, everywhere}
-use Rattle.formula_truth.specs.Bands.{Band, Bands, Known, known, exactly, negated}
-use Rattle.formula_truth.specs.Runs.{AreSwept, pessimistic, optimistic, units_at, mirrored}
-use Rattle.formula_truth.specs.Coarse.{AreStepped, AreCoarseBy, AreCoarse, IsCoarse}
+use Rattle.formula_truth.specs.ThreeValued.{Band, Bands, Known, known, exactly, negated}
+use Rattle.formula_truth.specs.InnerRuns.{AreSwept, pessimistic, optimistic, units_at, mirrored}
+use Rattle.formula_truth.specs.RoundBounds.{AreStepped, AreCoarseBy, AreCoarse, IsCoarse}
 use Rattle.formula_truth.proofs.Posed.{is_query}
 
 -- 1. A table with an entry for each state.

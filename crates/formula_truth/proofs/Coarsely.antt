@@ -29,10 +29,10 @@ use Rattle.verdicts.specs.Verdict.{verdict_of, is_asking}
 use Rattle.verdicts.proofs.Mirrored.{mirrored as mirrored-verdict}
 use Rattle.formula_truth.specs.declared.way.Way.TheVariants.{ByRounds}
 use Rattle.formula_truth.specs.Truth.{states, everywhere, question_by}
-use Rattle.formula_truth.specs.Bands.{Band, Known, verdict_at, exactly, negated}
-use Rattle.formula_truth.specs.Runs.{AreAnswered, AreSwept, AreFoundBy, pessimistic, optimistic, units_at, mirrored}
+use Rattle.formula_truth.specs.ThreeValued.{Band, Known, verdict_at, exactly, negated}
+use Rattle.formula_truth.specs.InnerRuns.{AreAnswered, AreSwept, AreFoundBy, pessimistic, optimistic, units_at, mirrored}
 use Rattle.formula_truth.specs.Sound.{IsAround, IsBetween}
-use Rattle.formula_truth.specs.Coarse.{AreStepped, AreCoarseBy, IsFiner}
+use Rattle.formula_truth.specs.RoundBounds.{AreStepped, AreCoarseBy, IsFiner}
 use Rattle.formula_truth.proofs.Posed.{is_query}
 use Rattle.formula_truth.proofs.Stepped.{IsRounding, IsUnder, down-rounding, up-rounding, steps-rise, marked-units}
 use Rattle.formula_truth.proofs.Stepped.{down_steps-most}

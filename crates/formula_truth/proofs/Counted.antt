@@ -10,7 +10,7 @@ use Rattle.formula_reader.specs.declared.formula.Bound.{Bound}
 use Rattle.formula_reader.specs.Formula.{State, True, False, Label, Not, And, Or, Implies, Inner, formulas_in}
 use Rattle.formula_sets.specs.Posing.{at_states}
 use Rattle.formula_sets.proofs.Asking.{pushed-more}
-use Rattle.formula_truth.specs.Bands.{Band, Bands, verdict_at, judgement, undecided_at, undecided_in}
+use Rattle.formula_truth.specs.ThreeValued.{Band, Bands, verdict_at, judgement, undecided_at, undecided_in}
 use Rattle.verdicts.specs.Verdict.{is_undecided}
 use Rattle.formula_truth.proofs.Numbers.{range_with_len-more}
 

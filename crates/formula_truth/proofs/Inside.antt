@@ -14,12 +14,12 @@ use Rattle.verdicts.specs.declared.verdict.Verdict.{Verdict}
 use Rattle.verdicts.specs.declared.verdict.Verdict.TheVariants.{Yes, No, Undecided, Bracket}
 use Rattle.formula_sets.specs.Posing.{Model}
 use Rattle.formula_truth.specs.Truth.{states}
-use Rattle.formula_truth.specs.Bands.{Band, Bands, known, surely, possibly, verdict_at, undecided_in}
+use Rattle.formula_truth.specs.ThreeValued.{Band, Bands, known, surely, possibly, verdict_at, undecided_in}
 use Rattle.verdicts.specs.Verdict.{is_yes, is_no, is_undecided}
 use Rattle.formula_truth.specs.declared.way.Way.TheVariants.{ByRounds}
-use Rattle.formula_truth.specs.Runs.{AreFound, AreFoundBy}
-use Rattle.formula_truth.specs.Coarse.{AreCoarse, AreCoarseBy, IsFiner, IsOpenWithin, AreOpenWithin, IsCoarse}
-use Rattle.formula_truth.specs.Coarse.{AreWithin}
+use Rattle.formula_truth.specs.InnerRuns.{AreFound, AreFoundBy}
+use Rattle.formula_truth.specs.RoundBounds.{AreCoarse, AreCoarseBy, IsFiner, IsOpenWithin, AreOpenWithin, IsCoarse}
+use Rattle.formula_truth.specs.RoundBounds.{AreWithin}
 use Rattle.formula_truth.proofs.Around.{and-on, or-on, threshold-share}
 use Rattle.formula_truth.proofs.Counted.{count-more}
 use Rattle.formula_truth.proofs.Valuation.{small-share}

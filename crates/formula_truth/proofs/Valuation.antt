@@ -30,8 +30,8 @@ use Rattle.verdicts.proofs.Fractions.{right}
 use Rattle.verdicts.proofs.Mirrored.{mirrored as mirrored-verdict}
 use Rattle.formula_truth.specs.declared.way.Way.{Way}
 use Rattle.formula_truth.specs.Truth.{states, question_by, dual_question_by, everywhere, IsTrueBy}
-use Rattle.formula_truth.specs.Bands.{Band, Known, verdict_at, exactly, negated}
-use Rattle.formula_truth.specs.Runs.{AreFoundBy, mirrored}
+use Rattle.formula_truth.specs.ThreeValued.{Band, Known, verdict_at, exactly, negated}
+use Rattle.formula_truth.specs.InnerRuns.{AreFoundBy, mirrored}
 use Rattle.formula_truth.specs.Sound.{IsAround, IsBetween, IsRightOf}
 use Rattle.formula_truth.proofs.Posed.{is_query}
 use Rattle.formula_truth.proofs.Widened.{IsBounded, answered, swept, next-swept, negated-around, exactly-around}

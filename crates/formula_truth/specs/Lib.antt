@@ -1,6 +1,6 @@
 pub mod Truth
 pub mod Rest
-pub mod Bands
-pub mod Runs
+pub mod ThreeValued
+pub mod InnerRuns
 pub mod Sound
-pub mod Coarse
+pub mod RoundBounds

@@ -12,7 +12,7 @@ use Rattle.verdicts.specs.declared.verdict.Verdict.{Verdict}
 use Rattle.verdicts.specs.declared.verdict.Verdict.TheVariants.{Yes, No, Undecided, Bracket}
 use Rattle.formula_truth.specs.Truth.{states, question_by, dual_question_by}
 use Rattle.formula_truth.specs.Rest.{IsBelowRest, IsNearRest}
-use Rattle.formula_truth.specs.Bands.{Band, Known}
+use Rattle.formula_truth.specs.ThreeValued.{Band, Known}
 
 -- What surely holds does hold, and what holds possibly holds.
 pub record IsAround (m : Model) (holds : ℕ → Bool) (known : Known) : Type 0 where

@@ -23,9 +23,9 @@ use Rattle.formula_sets.specs.Posing.{Model}
 use Rattle.formula_truth.specs.declared.way.Way.{Way}
 use Rattle.formula_truth.specs.declared.way.Way.TheVariants.{ByRounds}
 use Rattle.formula_truth.specs.Truth.{Valuation, IsTruth, states, holds, everywhere}
-use Rattle.formula_truth.specs.Bands.{Band, Known, known, exactly, negated, judgement, undecided_at, undecided_in}
-use Rattle.formula_truth.specs.Bands.{verdict_at}
-use Rattle.formula_truth.specs.Runs.{AreFound, AreFoundBy, AreAnswered, pessimistic, optimistic, mirrored}
+use Rattle.formula_truth.specs.ThreeValued.{Band, Known, known, exactly, negated, judgement, undecided_at, undecided_in}
+use Rattle.formula_truth.specs.ThreeValued.{verdict_at}
+use Rattle.formula_truth.specs.InnerRuns.{AreFound, AreFoundBy, AreAnswered, pessimistic, optimistic, mirrored}
 use Rattle.nested_truth.specs.Nested.{RoundsPromise, IsNested}
 use Rattle.nested_truth.specs.Seen.{AreAlike, IsBand, IsJudged, seen}
 use Rattle.formula_truth.specs.Sound.{IsAround, IsRightOf, AreSoundBy}

@@ -6,8 +6,8 @@ use Rattle.rpatl_syntax.specs.Spellable.{HasParts}
 use Rattle.formula_sets.specs.Posing.{Model}
 use Rattle.formula_truth.specs.declared.way.Way.{Way}
 use Rattle.formula_truth.specs.Truth.{Valuation, IsTruth, states, holds}
-use Rattle.formula_truth.specs.Bands.{Bands, known, exactly, undecided_in}
-use Rattle.formula_truth.specs.Runs.{AreFound}
+use Rattle.formula_truth.specs.ThreeValued.{Bands, known, exactly, undecided_in}
+use Rattle.formula_truth.specs.InnerRuns.{AreFound}
 use Rattle.nested_truth.specs.Seen.{AreAlike}
 use Rattle.formula_truth.proofs.Around.{around}
 use Rattle.nested_truth.proofs.Exactly.{known-exactly, settled}

@@ -30,9 +30,9 @@ use Rattle.verdicts.specs.Open.{LeavesOpen, IsLeftOpen, IsLeftOpenBy}
 use Rattle.verdicts.specs.Verdict.{verdict_of}
 use Rattle.verdicts.proofs.Opening.{open-here, open-wider}
 use Rattle.formula_truth.specs.Truth.{states, everywhere, question_by}
-use Rattle.formula_truth.specs.Bands.{Band, exactly, negated, verdict_at}
+use Rattle.formula_truth.specs.ThreeValued.{Band, exactly, negated, verdict_at}
 use Rattle.formula_truth.specs.declared.way.Way.TheVariants.{ByRounds}
-use Rattle.formula_truth.specs.Runs.{AreAnswered, AreSwept, AreFoundBy, IsRun, mirrored, units_at}
+use Rattle.formula_truth.specs.InnerRuns.{AreAnswered, AreSwept, AreFoundBy, IsRun, mirrored, units_at}
 use Rattle.nested_truth.specs.Open.{IsRunOpen, IsOpenBy}
 use Rattle.formula_truth.proofs.Posed.{is_query, is_next_query}
 use Rattle.formula_truth.proofs.Looked.{IsLookedAt, looked-start}

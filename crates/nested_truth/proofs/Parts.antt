@@ -7,7 +7,7 @@ use Rattle.nested_truth.specs.declared.known.KnownSets.{KnownSets}
 use Rattle.formula_sets.specs.Posing.{Model}
 use Rattle.formula_truth.specs.declared.way.Way.{Way}
 use Rattle.formula_truth.specs.Truth.{states}
-use Rattle.formula_truth.specs.Bands.{Known, known, exactly, negated, both, either}
+use Rattle.formula_truth.specs.ThreeValued.{Known, known, exactly, negated, both, either}
 use Rattle.nested_truth.specs.Seen.{AreAlike, IsJudged, seen}
 
 -- 1. What says the same.

@@ -6,7 +6,7 @@ use Rattle.std.proofs.lemmas.List.Elements.{All-from_get_or}
 use Rattle.game_model.specs.Limits.{unit}
 use Rattle.formula_sets.specs.Posing.{at_states}
 use Rattle.formula_sets.proofs.Asking.{at_states-at, length-at_states}
-use Rattle.formula_truth.specs.Runs.{units_at}
+use Rattle.formula_truth.specs.InnerRuns.{units_at}
 
 module _ {X : Type 0} (value : ℕ → X) (n : ℕ) (xs : List X) (is : xs ≡ at_states value n) where
   pub filled-length : length xs ≡ n

@@ -16,7 +16,7 @@ use Rattle.verdicts.specs.declared.report.How.{How}
 use Rattle.verdicts.specs.declared.report.How.TheVariants.{Rounds, Steps, Solved}
 use Rattle.formula_truth.specs.declared.way.Way.{Way}
 use Rattle.formula_truth.specs.declared.way.Way.TheVariants.{ByRounds, BySolver}
-use Rattle.formula_truth.specs.Runs.{AreAnswered, AreSwept, IsAnsweredBy, units_at}
+use Rattle.formula_truth.specs.InnerRuns.{AreAnswered, AreSwept, IsAnsweredBy, units_at}
 use Rattle.nested_truth.specs.Seen.{IsBand, high_or}
 
 -- 1. One question.

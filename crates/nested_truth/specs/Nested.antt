@@ -8,9 +8,9 @@ use Rattle.formula_sets.specs.Posing.{Model}
 use Rattle.formula_truth.specs.declared.way.Way.{Way}
 use Rattle.formula_truth.specs.declared.way.Way.TheVariants.{ByRounds}
 use Rattle.formula_truth.specs.Truth.{Valuation, IsTruth, states, holds}
-use Rattle.formula_truth.specs.Bands.{Band, Bands, known, exactly, verdict_at, undecided_in}
-use Rattle.formula_truth.specs.Runs.{AreFound, AreFoundBy}
-use Rattle.formula_truth.specs.Coarse.{AreCoarse, AreOpenWithin, AreWithin, IsCoarse}
+use Rattle.formula_truth.specs.ThreeValued.{Band, Bands, known, exactly, verdict_at, undecided_in}
+use Rattle.formula_truth.specs.InnerRuns.{AreFound, AreFoundBy}
+use Rattle.formula_truth.specs.RoundBounds.{AreCoarse, AreOpenWithin, AreWithin, IsCoarse}
 use Rattle.nested_truth.specs.Open.{IsOpenBy}
 use Rattle.formula_truth.specs.Sound.{IsAround, AreSoundBy, IsRightOf}
 

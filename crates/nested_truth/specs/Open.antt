@@ -12,8 +12,8 @@ use Rattle.formula_sets.specs.Posing.{Model, next_question_of}
 use Rattle.bounded_rounds.specs.Exact.{next_numerator}
 use Rattle.verdicts.specs.Open.{IsLeftOpen, IsLeftOpenBy}
 use Rattle.formula_truth.specs.Truth.{question_by, dual_question_by}
-use Rattle.formula_truth.specs.Bands.{Band}
-use Rattle.formula_truth.specs.Runs.{mirrored}
+use Rattle.formula_truth.specs.ThreeValued.{Band}
+use Rattle.formula_truth.specs.InnerRuns.{mirrored}
 
 -- The threshold of a question is left open at a state by a band, by as many rounded steps as rounds were asked for, and
 -- by the values of as many steps, over its zero set.

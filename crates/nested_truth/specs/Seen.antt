@@ -11,8 +11,8 @@ use Rattle.nested_truth.specs.declared.setting.Setting.{Setting}
 use Rattle.formula_sets.specs.Posing.{Model}
 use Rattle.formula_truth.specs.declared.way.Way.{Way}
 use Rattle.formula_truth.specs.Truth.{states}
-use Rattle.formula_truth.specs.Bands.{Band, Bands, Known, known, undecided_in}
-use Rattle.formula_truth.specs.Runs.{AreFound}
+use Rattle.formula_truth.specs.ThreeValued.{Band, Bands, Known, known, undecided_in}
+use Rattle.formula_truth.specs.InnerRuns.{AreFound}
 
 -- The model of a setting is its game with its labels and owners.
 abbrev pub model_of : Setting → Model

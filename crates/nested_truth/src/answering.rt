@@ -2,7 +2,7 @@
 
 ghost use Rattle.std.specs.Prelude.{◌≡◌, ◌≢◌, ◌<◌, All, IfOk, IfSome, length};
 ghost use Rattle.game_model.specs.Query.{states};
-ghost use Rattle.formula_truth.specs.Runs.{AreAnswered, IsAnsweredBy};
+ghost use Rattle.formula_truth.specs.InnerRuns.{AreAnswered, IsAnsweredBy};
 ghost use Rattle.nested_truth.specs.Seen.{IsBand, band_in, high_or};
 
 use crate::bounds::Bounds;

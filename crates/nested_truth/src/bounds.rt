@@ -18,7 +18,7 @@ pub struct Bounds {
 }
 
 impl Bounds {
-    ghost use Rattle.formula_truth.specs.Runs.{mirrored};
+    ghost use Rattle.formula_truth.specs.InnerRuns.{mirrored};
     ghost use Rattle.nested_truth.specs.Seen.{band_in};
 
     /// Returns 1 less the bounds, which bound the probability of the opposite.

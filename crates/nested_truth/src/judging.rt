@@ -1,7 +1,7 @@
 //! This module says what bounds say of a formula inside.
 
 ghost use Rattle.std.specs.Prelude.{◌≡◌, IfOk, length};
-ghost use Rattle.formula_truth.specs.Bands.{judgement, undecided_at};
+ghost use Rattle.formula_truth.specs.ThreeValued.{judgement, undecided_at};
 ghost use Rattle.nested_truth.specs.Seen.{AreAlike, IsBand, band_in, seen};
 
 use crate::bounds::Bounds;

@@ -19,7 +19,7 @@ pub struct KnownSets {
 }
 
 impl KnownSets {
-    ghost use Rattle.formula_truth.specs.Bands.{exactly, negated, both, either};
+    ghost use Rattle.formula_truth.specs.ThreeValued.{exactly, negated, both, either};
     ghost use Rattle.nested_truth.specs.Seen.{AreAlike, seen};
 
     /// Says that a formula holds at all of this many states, or at none.

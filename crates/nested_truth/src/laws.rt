@@ -7,8 +7,8 @@ ghost use Rattle.rpatl_syntax.specs.Spellable.{HasParts};
 ghost use Rattle.formula_sets.specs.Posing.{Model};
 ghost use Rattle.formula_truth.specs.declared.way.Way.{Way};
 ghost use Rattle.formula_truth.specs.Truth.{IsTruth, Valuation, holds, states};
-ghost use Rattle.formula_truth.specs.Bands.{Bands, surely, possibly, undecided_in};
-ghost use Rattle.formula_truth.specs.Runs.{AreFound};
+ghost use Rattle.formula_truth.specs.ThreeValued.{Bands, surely, possibly, undecided_in};
+ghost use Rattle.formula_truth.specs.InnerRuns.{AreFound};
 
 /// If no pair of a state and a formula inside a state formula is undecided, the bounds of the formulas inside say what
 /// is true. The state formula surely holds exactly where it holds in the truth, and it possibly holds exactly there.

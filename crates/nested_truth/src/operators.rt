@@ -3,8 +3,8 @@
 ghost use Rattle.std.specs.Prelude.{◌≡◌, ◌<◌, All, IfOk, length};
 ghost use Rattle.formula_reader.specs.Formula.{state_of, tree_of};
 ghost use Rattle.rpatl_syntax.specs.Spellable.{HasKind, HasShare};
-ghost use Rattle.formula_truth.specs.Bands.{Known};
-ghost use Rattle.formula_truth.specs.Runs.{AreFoundBy};
+ghost use Rattle.formula_truth.specs.ThreeValued.{Known};
+ghost use Rattle.formula_truth.specs.InnerRuns.{AreFoundBy};
 ghost use Rattle.nested_truth.specs.Seen.{IsBand, band_in, model_of, seen};
 
 use crate::answering::answer_both;

@@ -23,7 +23,7 @@ pub struct Questions<'g> {
 }
 
 impl<'g> Questions<'g> {
-    ghost use Rattle.formula_truth.specs.Runs.{pessimistic, optimistic};
+    ghost use Rattle.formula_truth.specs.InnerRuns.{pessimistic, optimistic};
     ghost use Rattle.nested_truth.specs.Seen.{high_or, model_of, seen};
 
     /// Makes the questions of a formula from what is known of its sides.

@@ -10,7 +10,7 @@ ghost use Rattle.game_outside.specs.Answers.{AnswersOrWants};
 ghost use Rattle.formula_sets.specs.Posing.{initial_said, IsOutOfMemory};
 ghost use Rattle.bracket_engine.specs.Limits.{most_rounds};
 ghost use Rattle.bounded_rounds.specs.Limits.{most_workers};
-ghost use Rattle.formula_truth.specs.Runs.{rounds_of};
+ghost use Rattle.formula_truth.specs.InnerRuns.{rounds_of};
 ghost use Rattle.nested_truth.specs.Nested.{IsNested};
 ghost use Rattle.nested_truth.specs.Seen.{IsBand, band_of, model_of};
 

@@ -6,7 +6,7 @@ ghost use Rattle.game_model.specs.Game.{IsGame};
 ghost use Rattle.predecessors.specs.Lists.{ArePredecessors};
 ghost use Rattle.bracket_engine.specs.Limits.{most_rounds};
 ghost use Rattle.bounded_rounds.specs.Limits.{most_workers};
-ghost use Rattle.formula_truth.specs.Runs.{rounds_of};
+ghost use Rattle.formula_truth.specs.InnerRuns.{rounds_of};
 
 use formula_truth::Way;
 use game_model::Game;

@@ -8,7 +8,7 @@ ghost use Rattle.bounded_rounds.specs.Limits.{most_steps, most_workers};
 ghost use Rattle.bounded_rounds.specs.Steps.{IsSweep};
 ghost use Rattle.formula_sets.specs.Posing.{next_question_of};
 ghost use Rattle.formula_reader.specs.Formula.{tree_of};
-ghost use Rattle.formula_truth.specs.Runs.{AreSwept, units_at};
+ghost use Rattle.formula_truth.specs.InnerRuns.{AreSwept, units_at};
 ghost use Rattle.nested_truth.specs.Seen.{IsBand, band_in, high_or, seen};
 
 use crate::bounds::Bounds;

@@ -5,7 +5,7 @@ use Rattle.formula_tokens.specs.Limits.{longest}
 use Rattle.rpatl_syntax.specs.Spellable.{IsSpellable}
 use Rattle.formula_sets.specs.Posing.{Model, initial_said}
 use Rattle.formula_truth.specs.declared.way.Way.{Way}
-use Rattle.formula_truth.specs.Bands.{Band}
+use Rattle.formula_truth.specs.ThreeValued.{Band}
 use Rattle.nested_truth.specs.Nested.{IsNested}
 use Rattle.output.specs.Refusals.{numbered}
 use Rattle.verdicts.specs.Report.{IsLine, report}

@@ -7,7 +7,7 @@ ghost use Rattle.game_model.specs.Limits.{unit};
 ghost use Rattle.verdicts.specs.Report.{HasCount, report};
 ghost use Rattle.bracket_engine.specs.Limits.{most_rounds};
 ghost use Rattle.bounded_rounds.specs.Limits.{most_workers};
-ghost use Rattle.formula_truth.specs.Runs.{rounds_of};
+ghost use Rattle.formula_truth.specs.InnerRuns.{rounds_of};
 ghost use Rattle.reports.specs.Nested.{IsAnswerable, IsNestedReport, inside_text};
 ghost use Rattle.output.specs.Printed.{line_of, status_of};
 ghost use Rattle.output.specs.Status.{IsAnswer};

@@ -8,9 +8,9 @@ ghost use Rattle.verdicts.specs.declared.report.How.{How};
 ghost use Rattle.formula_sets.specs.Posing.{Model};
 ghost use Rattle.formula_truth.specs.declared.way.Way.TheVariants.{ByRounds};
 ghost use Rattle.formula_truth.specs.Truth.{states};
-ghost use Rattle.formula_truth.specs.Bands.{Band, Bands, known, undecided_in};
-ghost use Rattle.formula_truth.specs.Runs.{AreFound, AreFoundBy};
-ghost use Rattle.formula_truth.specs.Coarse.{AreCoarse, AreOpenWithin, AreWithin, IsCoarse, IsFiner};
+ghost use Rattle.formula_truth.specs.ThreeValued.{Band, Bands, known, undecided_in};
+ghost use Rattle.formula_truth.specs.InnerRuns.{AreFound, AreFoundBy};
+ghost use Rattle.formula_truth.specs.RoundBounds.{AreCoarse, AreOpenWithin, AreWithin, IsCoarse, IsFiner};
 
 /// The formulas inside every state formula have coarse bounds after every number of rounds, and so has every formula.
 pub fn there_are_coarse_bounds()

@@ -1,7 +1,7 @@
 use Rattle.std.proofs.Common.{◌≡◌, ◌∙◌, ◌+◌, ap, not, arith, cond, sym, false, subst, get_or}
 use Rattle.std.proofs.lemmas.List.{get_or_read}
 use Rattle.verdicts.specs.Verdict.{verdict_of, is_yes, is_no, is_undecided}
-use Rattle.formula_truth.specs.Bands.{judgement, verdict_at}
+use Rattle.formula_truth.specs.ThreeValued.{judgement, verdict_at}
 use Rattle.nested_truth.specs.Seen.{band_in}
 use Rattle.formula_truth.proofs.Counted.{IsJudgedBelow, byte-is, byte-few, undecided-few, judged-more}
 use Rattle.nested_truth.proofs.Tables.{filled-length, filled-at}

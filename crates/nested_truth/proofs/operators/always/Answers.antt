@@ -1,6 +1,6 @@
 use Rattle.std.proofs.Common.{length, subst}
 use Rattle.formula_reader.specs.Formula.{tree_of}
-use Rattle.formula_truth.specs.Bands.{exactly, negated}
+use Rattle.formula_truth.specs.ThreeValued.{exactly, negated}
 use Rattle.formula_truth.specs.Truth.{everywhere}
 use Rattle.nested_truth.specs.Seen.{AreAlike, band_in, model_of, seen}
 use Rattle.nested_truth.proofs.Answered.{always-found, if_ok-band}

@@ -1,6 +1,6 @@
 use Rattle.std.proofs.Common.{rules, arith, refl, ap, subst, ◌∙◌, length}
 use Rattle.formula_reader.specs.Formula.{tree_of}
-use Rattle.formula_truth.specs.Bands.{judgement, undecided_at}
+use Rattle.formula_truth.specs.ThreeValued.{judgement, undecided_at}
 use Rattle.nested_truth.specs.Seen.{AreAlike, band_in, model_of, seen}
 use Rattle.nested_truth.proofs.Answered.{undecided-fits, undecided-fits-by, undecided-fits-inside, everywhere-inside}
 use Rattle.nested_truth.proofs.Answered.{judged-inside}

@@ -1,7 +1,7 @@
 use Rattle.std.proofs.Common.{◌∙◌, List, ℕ, false, get_or, length, ap, arith}
 use Rattle.std.specs.Prelude.{slice_index}
 use Rattle.std.proofs.lemmas.Result.{IfOk-weaker}
-use Rattle.formula_truth.specs.Runs.{units_at}
+use Rattle.formula_truth.specs.InnerRuns.{units_at}
 use Rattle.bounded_rounds.proofs.Parts.{IsSweep-same}
 use Rattle.nested_truth.proofs.Tables.{filled-length, filled-at, filled-units, units_at-units}
 use Rattle.nested_truth.proofs.sweeps.next_step.Goals as goal

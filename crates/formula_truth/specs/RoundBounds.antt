@@ -13,8 +13,8 @@ use Rattle.formula_sets.specs.Posing.{Model, next_question_of}
 use Rattle.verdicts.specs.declared.report.How.{How}
 use Rattle.verdicts.specs.Verdict.{is_asking, is_undecided}
 use Rattle.formula_truth.specs.Truth.{states, everywhere}
-use Rattle.formula_truth.specs.Bands.{Band, Bands, Known, known, exactly, negated, verdict_at}
-use Rattle.formula_truth.specs.Runs.{AreSwept, pessimistic, optimistic, units_at, mirrored}
+use Rattle.formula_truth.specs.ThreeValued.{Band, Bands, Known, known, exactly, negated, verdict_at}
+use Rattle.formula_truth.specs.InnerRuns.{AreSwept, pessimistic, optimistic, units_at, mirrored}
 
 -- The lower bounds are the values of this many down steps of one question. The upper ones are the unit less those of as
 -- many down steps of the swapped other question.

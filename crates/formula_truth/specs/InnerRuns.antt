@@ -23,7 +23,7 @@ use Rattle.solved_plans.specs.Plans.{IsSolvedPlan}
 use Rattle.formula_truth.specs.declared.way.Way.{Way}
 use Rattle.formula_truth.specs.declared.way.Way.TheVariants.{ByRounds, BySolver}
 use Rattle.formula_truth.specs.Truth.{states, question_by, everywhere}
-use Rattle.formula_truth.specs.Bands.{Band, Bands, Known, known, exactly, negated}
+use Rattle.formula_truth.specs.ThreeValued.{Band, Bands, Known, known, exactly, negated}
 
 -- This many rounds are asked for. With a solver none are asked for, though it makes some if its bounds are far apart.
 abbrev pub rounds_of : Way → ℕ
