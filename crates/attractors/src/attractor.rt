@@ -30,7 +30,7 @@ pub fn attractor_of<S: Excluded>(
     requires fits { S.fits excluded.now question.now }
     ensures { IfOk result (λ set. IsAttractor question.now (S.excluded excluded.now question.now) set.items) }
 {
-    question.known();
+    question.invariant();
     let mut search = AttractorSearch::of_goals(alloc, question)?;
     let mut place: usize = 0;
     while place < search.order.len() {
@@ -56,7 +56,7 @@ fn advance<S: Excluded>(
     ensures { IfOk result (λ next. IsAdvanced question.now (S.excluded excluded.now question.now) predecessors.now place next
         search.new.members.items search.new.next_choice.items search.new.order.items) }
 {
-    question.known();
+    question.invariant();
     let end = search.order.len();
     if end - place > question.game().states() as usize / SHARE {
         test_all(question, excluded, search)?;

@@ -72,7 +72,7 @@ pub fn meets(question: &Question, set: &[bool], state: u32, choice: u32) -> bool
     requires many { length set.now ≡ states question.now }
     ensures { result ≡ meets set.now (choice_of question.now.game state choice) }
 {
-    question.known();
+    question.invariant();
     for to in question.game().successors(state, choice) {
         if set[*to as usize] {
             return true;

@@ -28,7 +28,7 @@ impl AttractorSearch {
         ensures { IfOk result (λ g. (excluded : ExcludedSets) → IsAttractorSearch question.now excluded
             [] g.members.items g.next_choice.items g.order.items) }
     {
-        question.known();
+        question.invariant();
         let states = question.game().states();
         let next_choice = vec![in alloc; 0u32; states as usize]?;
         let mut members = Vec::with_capacity(alloc, states as usize)?;
@@ -65,7 +65,7 @@ impl AttractorSearch {
             → IsAttractorSearch question.now (S.excluded excluded.now question.now)
             (followed ++ step ∷ []) self.new.members.items self.new.next_choice.items self.new.order.items) }
     {
-        question.known();
+        question.invariant();
         let state = step.state as usize;
         if self.members[state]
             || excluded.excludes_state(question, step.state)
@@ -119,7 +119,7 @@ impl AttractorSearch {
             → IsTested question.now (S.excluded excluded.now question.now) self.old.members.items self.new.next_choice.items
             state) }
     {
-        question.known();
+        question.invariant();
         let place = state as usize;
         if self.members[place] || excluded.excludes_state(question, state) {
             return Ok(());

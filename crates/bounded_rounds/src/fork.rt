@@ -25,7 +25,7 @@ pub fn step_chunks<R: Threads + Sync, G: Gate + Sync>(
     requires part { IsPartFrom tables (worker * size) next.old }
     ensures { IsStepOf tables.entry (worker * size) (length next.old) next.new result }
 {
-    tables.question.known();
+    tables.question.invariant();
     let count = next.len() as u32;
     if count <= size {
         return step_part(tables, gate, worker, worker * size, next);

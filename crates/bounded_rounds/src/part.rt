@@ -29,7 +29,7 @@ pub fn step_part<G: Gate>(
     requires { IsPartFrom tables first next.old }
     ensures { IsStepOf tables.entry first (length next.old) next.new result }
 {
-    tables.question.known();
+    tables.question.invariant();
     let mut changed = false;
     let mut from = 0;
     while from < next.len() {
@@ -83,7 +83,7 @@ fn step_stretch<G: Gate>(
     requires before { IsStepOf tables first from next.old before }
     ensures { IsStepOf tables.entry first to next.new result }
 {
-    tables.question.known();
+    tables.question.invariant();
     let mut changed = before;
     for place in from..to {
         let state = first + place as u32;

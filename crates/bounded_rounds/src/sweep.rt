@@ -102,7 +102,7 @@ fn iterate<R: Threads + Sync, G: Gate + Sync>(
         (uppers result.items) }
     ensures units { All AreUnits result.items }
 {
-    question.known();
+    question.invariant();
     let mut used = workers;
     for _done in 0..steps {
         if !step(rt, question, &table, &mut next, used, gate) {
@@ -128,7 +128,7 @@ fn step<R: Threads + Sync, G: Gate + Sync>(
     requires workers { 1 ≤ workers }
     ensures { IsStepped question.now table.now 0 (states question.now) next.new result }
 {
-    question.known();
+    question.invariant();
     let tables = Tables { question, table };
     let size = question.game().states().div_ceil(workers);
     step_chunks(rt, tables, gate, size, 0, next)

@@ -30,7 +30,7 @@ pub fn bounded_values<R: Threads + Sync, G: Gate + Sync>(
     ensures units { IfOk result (λ sweep. All (λ v. v ≤ unit) sweep.lower.items
         × All (λ v. v ≤ unit) sweep.upper.items) }
 {
-    question.known();
+    question.invariant();
     let table = opening_of(alloc, question)?;
     bounded(rt, alloc, question, &table, steps, workers, gate)
 }

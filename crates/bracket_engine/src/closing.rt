@@ -39,7 +39,7 @@ pub fn bracket_of<R: Threads + Sync, F: Fn(u64, u64) -> bool, G: Gate + Sync>(
     ensures { IfOk result (IsBracketOfRun made.now.ending.now.question.now made.now.ending.now.zero.now
         (bound_of made.now.ending.now.rule.now) made.now.ending.now.initial.now made.now.most) }
 {
-    swapped_question.known();
+    swapped_question.invariant();
     let ending = made.ending;
     let Raced {
         words,

@@ -24,7 +24,7 @@ impl<R: Threads + Sync> UpTables for ParallelSweep<'_, R> {
     ghost can_fill = { IsSync R.row };
 
     fn fill(&self, question: &Question, table: &[u64], next: &mut [u64]) {
-        question.known();
+        question.invariant();
         let size = question.game().states().div_ceil(self.workers);
         for_each_chunk_mut(
             self.rt,

@@ -96,7 +96,7 @@ pub fn bracket_over<R: Threads + Sync, F: Fn(u64, u64) -> bool, G: Gate + Sync>(
     requires initial { All (λ s. s < states question.now) initial.now }
     ensures { IfOk result (IsBracketOfRun question.now zero.now (bound_of stop.now) initial.now rounds) }
 {
-    question.known();
+    question.invariant();
     let swapped_question = swap(alloc, question, zero)?;
     let ending = Ending {
         question,

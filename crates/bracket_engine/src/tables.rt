@@ -58,7 +58,7 @@ pub fn choices_of_words(
     ensures choices { IfOk result (λ choices. (s : ℕ) → s < states question.now
         → slice_index_or choices.items s None ≡ choice_of_word question.now s (slice_index words.now s)) }
 {
-    question.known();
+    question.invariant();
     let mut choices = Vec::new(alloc);
     for state in 0..question.game().states() {
         let choice = choice_of_state(question, state, words[state as usize]);

@@ -20,7 +20,7 @@ pub fn audit(alloc: Global, question: &Question, bytes: &[u8]) -> Result<Plan, A
     ensures sound { IfOk result (λ plan. IsSoundPlan question.now plan) }
     ensures refused { IfErr result (λ fault. IsOutOfMemory fault ⊎ IsRefused question.now bytes.now fault) }
 {
-    question.known();
+    question.invariant();
     let plan = read_plan(alloc, bytes, question.game().states())?;
     check_plan(question, &plan)?;
     Ok(plan)

@@ -56,7 +56,7 @@ impl Components {
     }
 
     /// Tells a proof what holds for all components. It does nothing.
-    pub fn known(&self)
+    pub fn invariant(&self)
         ensures { IsPartition self.now }
     {
         let _ = &self.lists;

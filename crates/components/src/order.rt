@@ -46,7 +46,7 @@ fn leads_back(question: &Question, component: &[u32], state: u32, choice: u32) -
     ensures { IsTrue result → LeadsBack question.now component.now state choice
         (length (choice_of question.now.game state choice).edges) }
 {
-    question.known();
+    question.invariant();
     let own = component[state as usize];
     for to in question.game().successors(state, choice) {
         if component[*to as usize] > own {

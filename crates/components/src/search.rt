@@ -125,7 +125,7 @@ impl Search {
         requires choice { seen.choice < length (choices_of question.now.game state) }
         ensures { self.new.states ≡ self.old.states }
     {
-        question.known();
+        question.invariant();
         if seen.place > 0 || kept.keeps(question, state, seen.choice) {
             let successors = question.game().successors(state, seen.choice);
             if let Some(place) = self.follow(state, successors, seen.place as usize) {

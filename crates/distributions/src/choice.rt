@@ -39,7 +39,7 @@ pub fn known_of_all(parts: &[Part])
     ensures { All (λ part. IsFraction part.share) parts.now }
 {
     for part in parts {
-        part.share.known();
+        part.share.invariant();
     }
 }
 

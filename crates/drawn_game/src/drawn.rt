@@ -37,7 +37,7 @@ impl Drawn {
     ghost use Rattle.drawn_game.specs.Asked.{question_of, IsSided};
 
     /// Tells a proof which facts hold for every drawn game. It does nothing.
-    pub fn known(&self)
+    pub fn invariant(&self)
         ensures { IsSided self.now }
     {
         let _ = &self.sides;

@@ -28,7 +28,7 @@ pub fn step_above<V: Values>(
     ensures step { IsStepAbove question.now (V.seen values.now pass.old)
         (V.seen values.now pass.new) state floor result.0 result.1 }
 {
-    question.known();
+    question.invariant();
     match question.side(state) {
         Side::Max => greatest_above(question, values, pass, state, floor),
         Side::Min => (least_above(question, values, pass, state, floor), 0),
@@ -59,7 +59,7 @@ fn greatest_above<V: Values>(
     ensures first { (c : ℕ) → c < result.1
         → down_value (V.seen values.now pass.old) (choice_of question.now.game state c) < result.0 }
 {
-    question.known();
+    question.invariant();
     let row = question.row(state);
     let mut best = floor;
     let mut first = 0;
@@ -93,7 +93,7 @@ fn least_above<V: Values>(
     ensures given { floor < result → (c : ℕ) → c < length (choices_of question.now.game state)
         → result ≤ down_value (V.seen values.now pass.new) (choice_of question.now.game state c) }
 {
-    question.known();
+    question.invariant();
     let row = question.row(state);
     let mut best = UNIT;
     for choice in 0..row.choices() {

@@ -21,7 +21,7 @@ pub fn quotients(row: &Row<'_>, choice: u32, table: &[Bounds]) -> (Quotient, Quo
     ensures down { rounded_down result.0 ≡ down_value (slice_index (lowers table.now)) (choice_among row.now choice) }
     ensures up { rounded_up result.1 ≡ up_value (slice_index (uppers table.now)) (choice_among row.now choice) }
 {
-    row.known();
+    row.invariant();
     let total = row.total(choice);
     let (lower, upper) = sums_of(row, choice, total, table);
     (Quotient::new(lower, total), Quotient::new(upper, total))
@@ -36,7 +36,7 @@ fn sums_of(row: &Row<'_>, choice: u32, total: u128, table: &[Bounds]) -> (u128, 
     requires units { All AreUnits table.now }
     ensures { AreSums (choice_among row.now choice).edges table.now result.0 result.1 }
 {
-    row.known();
+    row.invariant();
     if total >= 18_446_744_073_709_551_616 {
         return wide_sums(&row.again(), choice, table);
     }
@@ -93,7 +93,7 @@ fn wide_sums(row: &Row<'_>, choice: u32, table: &[Bounds]) -> (u128, u128)
     requires units { All AreUnits table.now }
     ensures { AreSums (choice_among row.now choice).edges table.now result.0 result.1 }
 {
-    row.known();
+    row.invariant();
     let mut lower: u128 = 0;
     let mut upper: u128 = 0;
     for place in 0..row.edge_count(choice) {

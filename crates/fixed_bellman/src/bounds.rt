@@ -55,7 +55,7 @@ fn greatest_bounds(question: &Question, state: u32, table: &[Bounds]) -> Bounds
         (choices_of question.now.game state) }
     ensures units { AreUnits result }
 {
-    question.known();
+    question.invariant();
     let row = question.row(state);
     let mut lower = 0;
     let mut upper = 0;
@@ -82,7 +82,7 @@ fn least_bounds(question: &Question, state: u32, table: &[Bounds]) -> Bounds
         (choices_of question.now.game state) }
     ensures units { AreUnits result }
 {
-    question.known();
+    question.invariant();
     let row = question.row(state);
     let mut lower = UNIT;
     let mut upper = UNIT;

@@ -25,7 +25,7 @@ pub fn down_choice(question: &Question, state: u32, choice: u32, table: &[u64]) 
     ensures greatest { weighted_sum (slice_index table.now) (choice_of question.now.game state choice).edges
         < (result + 1) * (choice_of question.now.game state choice).total }
 {
-    question.known();
+    question.invariant();
     table_quotient(&question.row(state), choice, table).down()
 }
 
@@ -44,7 +44,7 @@ pub fn up_choice(question: &Question, state: u32, choice: u32, table: &[u64]) ->
         < weighted_sum (slice_index table.now) (choice_of question.now.game state choice).edges +
         (choice_of question.now.game state choice).total }
 {
-    question.known();
+    question.invariant();
     table_quotient(&question.row(state), choice, table).up()
 }
 

@@ -67,7 +67,7 @@ fn table_step_above(question: &Question, state: u32, table: &[u64], floor: u64) 
         → (result.0 ≡ down_step question.now (slice_index table.now) state)
         × DownChoice question.now (slice_index table.now) state result.0 result.1 }
 {
-    question.known();
+    question.invariant();
     let entries = Entries::new(table);
     step_above(question, &entries, &mut (), state, floor)
 }

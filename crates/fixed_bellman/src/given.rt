@@ -22,7 +22,7 @@ pub fn gives(row: &Row<'_>, choice: u32, table: &[u64], value: u64) -> bool
     ensures { IsTrue result ↔ (value * (choice_among row.now choice).total
         ≤ weighted_sum (slice_index table.now) (choice_among row.now choice).edges) }
 {
-    row.known();
+    row.invariant();
     !table_quotient(row, choice, table).down_below(value)
 }
 
@@ -36,7 +36,7 @@ pub fn holds(row: &Row<'_>, choice: u32, table: &[u64], value: u64) -> bool
     ensures { IsTrue result ↔ (weighted_sum (slice_index table.now) (choice_among row.now choice).edges
         ≤ value * (choice_among row.now choice).total) }
 {
-    row.known();
+    row.invariant();
     !table_quotient(row, choice, table).up_above(value)
 }
 
@@ -47,7 +47,7 @@ pub fn is_given(question: &Question, state: u32, table: &[u64]) -> bool
     requires units { All (λ v. v ≤ unit) table.now }
     ensures { IsTrue result ↔ (slice_index table.now state ≤ down_step question.now (slice_index table.now) state) }
 {
-    question.known();
+    question.invariant();
     let entry = table[state as usize];
     if entry == 0 || question.is_goal(state) {
         return true;

@@ -30,7 +30,7 @@ fn rises(question: &Question, state: u32, table: &[u64]) -> bool
     requires units { All (λ v. v ≤ unit) table.now }
     ensures { IsTrue result ↔ (slice_index table.now state < down_step question.now (slice_index table.now) state) }
 {
-    question.known();
+    question.invariant();
     let entry = table[state as usize];
     if question.is_goal(state) {
         return entry < UNIT;
@@ -67,7 +67,7 @@ pub fn all_above(row: &Row<'_>, table: &[u64], floor: u64) -> bool
     requires floor { floor ≤ unit }
     ensures { IsTrue result ↔ (floor < optimum Side.Min (down_value (slice_index table.now)) row.now) }
 {
-    row.known();
+    row.invariant();
     for choice in 0..row.choices() {
         if !table_quotient(row, choice, table).down_above(floor) {
             return false;

@@ -20,7 +20,7 @@ pub fn quotient<V: Values>(row: &Row<'_>, choice: u32, values: &V, pass: &mut V:
     ensures between { IsBetween result (V.seen values.now pass.old) (V.seen values.now pass.new)
         (choice_among row.now choice) }
 {
-    row.known();
+    row.invariant();
     let total = row.total(choice);
     let sum = sum_of(row, choice, total, values, pass);
     Quotient::new(sum, total)
@@ -55,7 +55,7 @@ fn sum_of<V: Values>(
     ensures sum { IsSumBetween (choice_among row.now choice).edges (V.seen values.now pass.old)
         (V.seen values.now pass.new) result }
 {
-    row.known();
+    row.invariant();
     if total >= 18_446_744_073_709_551_616 {
         return wide_sum(&row.again(), choice, values, pass);
     }
@@ -113,7 +113,7 @@ fn wide_sum<V: Values>(row: &Row<'_>, choice: u32, values: &V, pass: &mut V::Pas
     ensures sum { IsSumBetween (choice_among row.now choice).edges (V.seen values.now pass.old)
         (V.seen values.now pass.new) result }
 {
-    row.known();
+    row.invariant();
     let mut sum: u128 = 0;
     for place in 0..row.edge_count(choice) {
         let edge = row.edge(choice, place);

@@ -18,7 +18,7 @@ fn greatest_up(question: &Question, state: u32, table: &[u64]) -> u64
     ensures value { result ≡ optimum Side.Max (up_value (slice_index table.now)) (choices_of question.now.game state) }
     ensures units { result ≤ unit }
 {
-    question.known();
+    question.invariant();
     let row = question.row(state);
     let mut best = 0;
     for choice in 0..row.choices() {
@@ -38,7 +38,7 @@ fn least_up(question: &Question, state: u32, table: &[u64]) -> u64
     ensures value { result ≡ optimum Side.Min (up_value (slice_index table.now)) (choices_of question.now.game state) }
     ensures units { result ≤ unit }
 {
-    question.known();
+    question.invariant();
     let row = question.row(state);
     let mut best = UNIT;
     for choice in 0..row.choices() {

@@ -31,7 +31,7 @@ pub fn marks_of_label(
     requires { labels.now.states ≡ states }
     ensures { IfOk result (λ v. v.items ≡ at_states (holds_at labels.now name.now) states) }
 {
-    labels.known();
+    labels.invariant();
     let mut marks = Vec::with_capacity(alloc, states as usize)?;
     marks.extend_from_slice(labels.marks(name.as_bytes()))?;
     marks.resize(states as usize, false)?;

@@ -90,7 +90,7 @@ pub fn initial_of(
         (initial_said labels.now owners.now (tree_of formula.now)) }
     ensures inside { IfOk result (λ initial. All (λ s. s < labels.now.states) initial.items) }
 {
-    labels.known();
+    labels.invariant();
     if let Some(name) = unknown_label_of(labels, formula) {
         return Err(PoseFault::label(alloc, name));
     }

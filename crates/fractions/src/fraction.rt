@@ -29,7 +29,7 @@ impl Model for Frac {
 
 impl Frac {
     /// Tells a proof which facts hold for every fraction. It does nothing.
-    pub fn known(&self)
+    pub fn invariant(&self)
         ensures { IsFraction self.now }
     {
         let _ = &self.num;

@@ -17,7 +17,7 @@ pub fn stays_low(question: &Question, table: &[u64], next: &[u64])
         ⊎ (slice_index next.now s ≤ down_step question.now (slice_index table.now) s) }
     ensures { IsLow question.now (slice_index next.now) }
 {
-    question.known();
+    question.invariant();
 }
 
 /// A low table stays low if one entry is raised to at most its down value.
@@ -26,7 +26,7 @@ pub fn stays_low_when_raised(question: &Question, table: &[u64], state: u32, val
     requires raised { value ≤ down_step question.now (slice_index table.now) state }
     ensures { IsLow question.now (slice_index (slice_set table.now state value)) }
 {
-    question.known();
+    question.invariant();
 }
 
 /// A greater table has a greater down step.
@@ -35,7 +35,7 @@ pub fn down_steps_in_order(question: &Question, table: &[u64], other: &[u64])
     ensures { IsBelow question.now (down_step question.now (slice_index table.now))
         (down_step question.now (slice_index other.now)) }
 {
-    question.known();
+    question.invariant();
 }
 
 /// The table of r down steps never falls when r grows, is at most the r-step values, and is at most r units below them.
@@ -46,7 +46,7 @@ pub fn down_steps_of(question: &Question)
     ensures near { (r s : ℕ) → unit * numerator question.now r s
         ≤ (down_steps question.now r s + r) * denominator question.now.game ^ r }
 {
-    question.known();
+    question.invariant();
 }
 
 /// If a settled table is nowhere below the opening table, it is nowhere below the table of r down steps.
@@ -55,7 +55,7 @@ pub fn settled_is_above_down_steps(question: &Question, table: &[u64])
     requires settled { IsSettled question.now (slice_index table.now) }
     ensures { (r : ℕ) → IsBelow question.now (down_steps question.now r) (slice_index table.now) }
 {
-    question.known();
+    question.invariant();
 }
 
 /// The entries of an inductive table are at least every k-step value.
@@ -63,7 +63,7 @@ pub fn inductive_is_high(question: &Question, table: &[u64])
     requires { IsInductive question.now (slice_index table.now) }
     ensures { IsHigh question.now (slice_index table.now) }
 {
-    question.known();
+    question.invariant();
 }
 
 /// If an entry of a low table is at least a bound a/b, the values reach the bound. If it is above, they exceed the
@@ -75,7 +75,7 @@ pub fn low_and_bounds(question: &Question, table: &[u64])
     ensures exceeded { (a b s : ℕ) → s < states question.now → a * unit < slice_index table.now s * b
         → Exceeds question.now a b s }
 {
-    question.known();
+    question.invariant();
 }
 
 /// If an entry of a high table is at most a bound a/b, no value exceeds the bound. If it is below, the values do not
@@ -87,5 +87,5 @@ pub fn high_and_bounds(question: &Question, table: &[u64])
     ensures not_reached { (a b s : ℕ) → s < states question.now → slice_index table.now s * b < a * unit
         → ¬ Reaches question.now a b s }
 {
-    question.known();
+    question.invariant();
 }

@@ -60,7 +60,7 @@ impl GameBuilder {
         ensures ok { IfOk result (λ _. self.new ≡ with_choice self.old choice.now) }
         ensures err { OnErr result (self.new ≡ self.old) }
     {
-        choice.known();
+        choice.invariant();
         self.push_edges(choice.total(), choice.edges())
     }
 

@@ -76,7 +76,7 @@ impl Choice {
     }
 
     /// Tells a proof which facts hold for every choice. It does nothing.
-    pub fn known(&self)
+    pub fn invariant(&self)
         ensures { IsDistribution self.now }
     {
         let _ = &self.total;
@@ -132,7 +132,7 @@ impl Game {
     ghost use Rattle.game_model.specs.Game.{Distribution, IsGame, choices_of, choice_of, edge_of, choices_below, edges_below, successors_between};
 
     /// Tells a proof which facts hold for every game. It does nothing.
-    pub fn known(&self)
+    pub fn invariant(&self)
         ensures { IsGame self.now }
     {
         let _ = &self.to;
@@ -229,7 +229,7 @@ impl Game {
         ensures list { result.now ≡ successors_between self.now from to }
         ensures states { All (λ t. t < length self.now) result.now }
     {
-        self.known();
+        self.invariant();
         let begin = self.first_edge[self.first_choice[from as usize] as usize];
         let end = self.first_edge[self.first_choice[to as usize] as usize];
         part(&self.to, begin as usize, end as usize)

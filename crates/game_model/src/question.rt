@@ -56,7 +56,7 @@ impl<'g> Question<'g> {
         ensures goals { result.goals ≡ goal.items }
         ensures deads { result.deads ≡ dead.items }
     {
-        game.known();
+        game.invariant();
         Question {
             game,
             sides,
@@ -66,7 +66,7 @@ impl<'g> Question<'g> {
     }
 
     /// Tells a proof which facts hold for every question. It does nothing.
-    pub fn known(&self)
+    pub fn invariant(&self)
         ensures { IsQuery self.now }
     {
         let _ = &self.game;

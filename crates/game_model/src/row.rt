@@ -37,7 +37,7 @@ impl<'g> Row<'g> {
 
     /// Tells a proof which facts hold for every row. It does nothing.
     #[inline(always)]
-    pub fn known(&self)
+    pub fn invariant(&self)
         ensures some { 0 < length self.now }
         ensures distributions { (c : ℕ) → c < length self.now → IsDistribution (choice_among self.now c) }
     {
@@ -88,7 +88,7 @@ impl<'g> Row<'g> {
         requires { choice < length self.now }
         ensures { result ≡ (choice_among self.now choice).total }
     {
-        self.known();
+        self.invariant();
         let mut total: u128 = 0;
         for place in 0..self.edge_count(choice) {
             total += self.edge(choice, place).weight;

@@ -101,7 +101,7 @@ impl LineText {
         ensures text { LeavesText H.Shelf self.old self.new shelf.old shelf.new result }
         ensures shelf { LeavesBegun H.Shelf self.old.limit shelf.old shelf.new result }
     {
-        self.known();
+        self.invariant();
         line.clear();
         if self.ended {
             return Ok(false);
@@ -133,7 +133,7 @@ impl LineText {
         ensures text { LeavesText H.Shelf self.old self.new shelf.old shelf.new result }
         ensures shelf { LeavesBegun H.Shelf self.old.limit shelf.old shelf.new result }
     {
-        self.known();
+        self.invariant();
         while self.fill(shelf)? {}
         Ok(())
     }
@@ -170,7 +170,7 @@ impl LineText {
     }
 
     // An open text has not passed its limit, and after the end nothing is held.
-    fn known(&self)
+    fn invariant(&self)
         ensures within { self.now.closed ≡ false → self.now.taken ≤ self.now.limit }
         ensures over { self.now.ended ≡ true → self.now.held ≡ [] }
     {
@@ -189,7 +189,7 @@ impl LineText {
         ensures text { LeavesText H.Shelf self.old self.new shelf.old shelf.new result }
         ensures shelf { LeavesBegun H.Shelf self.old.limit shelf.old shelf.new result }
     {
-        self.known();
+        self.invariant();
         self.begin = 0;
         self.end = 0;
         if self.ended {

@@ -19,7 +19,7 @@ pub fn swap<'g>(
     requires { IsZeroSet question.now zero.now }
     ensures { IfOk result (λ other. other ≡ swapped question.now zero.now) }
 {
-    question.known();
+    question.invariant();
     let states = question.game().states();
     let mut sides = Vec::new(alloc);
     let mut goals = Vec::new(alloc);

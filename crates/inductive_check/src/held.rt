@@ -17,7 +17,7 @@ pub fn is_held(question: &Question, upper: &[u64], state: u32, choice: u32) -> b
     requires choice { choice < length (choices_of question.now.game state) }
     ensures { IsTrue result ↔ IsHeldAt question.now (slice_index upper.now) state choice }
 {
-    question.known();
+    question.invariant();
     holds(&question.row(state), choice, upper, upper[state as usize])
 }
 

@@ -28,5 +28,5 @@ pub fn replies_hold(question: &Question, upper: &[u64], replies: &[Option<u32>])
     requires replies { AreReplies question.now (slice_index upper.now) replies.now }
     ensures { HoldsUnder question.now replies.now (slice_index upper.now) }
 {
-    question.known();
+    question.invariant();
 }

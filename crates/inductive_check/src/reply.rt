@@ -108,7 +108,7 @@ fn reply_of(question: &Question, upper: &[u64], state: u32) -> Option<u32>
     requires state { state < states question.now }
     ensures { IsFirstReply question.now (slice_index upper.now) state result }
 {
-    question.known();
+    question.invariant();
     if !needs_reply(question, state) {
         return None;
     }

@@ -48,7 +48,7 @@ pub fn check_upper(question: &Question, upper: &[u64]) -> Result<(), UpperFault>
     ensures high { IsOk result → IsHigh question.now (slice_index upper.now) }
     ensures fault { IfErr result (λ fault. IsUpperFault question.now upper.now fault.state fault.cause) }
 {
-    question.known();
+    question.invariant();
     check_units(upper)?;
     for state in 0..question.game().states() {
         if let Err(cause) = check_state(question, upper, state) {
@@ -85,7 +85,7 @@ fn check_state(question: &Question, upper: &[u64], state: u32) -> Result<(), Upp
     ensures ok { IsOk result ↔ (up_step question.now (slice_index upper.now) state ≤ slice_index upper.now state) }
     ensures cause { IfErr result (IsCauseAt question.now (slice_index upper.now) state) }
 {
-    question.known();
+    question.invariant();
     if question.is_goal(state) {
         if upper[state as usize] < UNIT {
             return Err(UpperCause::Goal);

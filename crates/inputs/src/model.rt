@@ -136,7 +136,7 @@ fn pose_nested(alloc: Global, loaded: &Loaded) -> Result<Problem<'_>, End>
     ensures inside { IfOk result (λ it. All (λ s. s < states_of (problem_of it)) (initial_of (problem_of it))) }
     ensures nothing { ReadsNothing result }
 {
-    loaded.labels.known();
+    loaded.labels.invariant();
     let initial = initial_of(alloc, &loaded.labels, &loaded.owners, &loaded.formula)?;
     Ok(Problem::Nested(loaded, initial))
 }

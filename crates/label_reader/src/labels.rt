@@ -48,7 +48,7 @@ impl Labels {
     }
 
     /// Shows what every labelling keeps: each label has a mark for each state.
-    pub fn known(&self)
+    pub fn invariant(&self)
         ensures { IsLabelling self.now }
     {
         let _ = &self.sets;

@@ -41,7 +41,7 @@ impl Owners {
     }
 
     /// Shows what every ownership keeps: each owner is one of the players.
-    pub fn known(&self)
+    pub fn invariant(&self)
         ensures { IsOwnership self.now }
     {
         let _ = &self.owners;

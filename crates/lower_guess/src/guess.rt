@@ -85,7 +85,7 @@ pub fn lower_guess_over<'a>(
     ensures above { IfOk result (λ g. IsBelow question.now (slice_index base.now) (slice_index g.values.items)) }
     ensures near { IfOk result (λ g. IsNear question.now (slice_index g.values.items)) }
 {
-    question.known();
+    question.invariant();
     for place in 0..LAST_PLACE + 1 {
         let guesses = Guesses {
             question,

@@ -80,7 +80,7 @@ pub fn mark_again(
     ensures marks { length marks.new ≡ length game.now }
     ensures marked { AreMarkedFor game.now (slice_index table.now) (slice_index next.now) marks.new }
 {
-    game.known();
+    game.invariant();
     marks.fill(false);
     for state in 0..game.states() {
         if next[state as usize] < table[state as usize] {

@@ -23,7 +23,7 @@ impl Guesses<'_> {
     pub fn falls_to_the_last(&self) -> bool
         ensures { IsTrue result → AreRefusedOf self.now }
     {
-        self.question.known();
+        self.question.invariant();
         let states = self.question.game().states();
         let stride = states / MOST_TRIES + 1;
         let mut budget = states / STATES_FOR_A_LOOK;

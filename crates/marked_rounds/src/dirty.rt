@@ -197,7 +197,7 @@ fn mark_changed(game: &Game, predecessors: &Predecessors, changed: &mut [bool], 
     ensures marks { length marks.new ≡ length game.now }
     ensures marked { AreMarkedFor game.now changed.old marks.new }
 {
-    game.known();
+    game.invariant();
     let mut state = mark_from(changed, 0);
     while state < game.states() {
         changed[state as usize] = false;

@@ -44,7 +44,7 @@ pub fn open<'q, P: Posing>(
     requires { question.now ≡ P.posed }
     ensures { IfOk result (λ runner. IsRacing P.posed 0 runner.pass runner.dirty) }
 {
-    question.known();
+    question.invariant();
     let dirty = DirtySet::open(alloc, question)?;
     let (table, pass) = ValueTable::<P>::start(alloc, question)?;
     Ok(Runner {
@@ -157,7 +157,7 @@ pub fn busy_workers(question: &Question<'_>, workers: u32, changed: u32) -> u32
     ensures some { 1 ≤ result }
     ensures few { result ≤ workers }
 {
-    question.known();
+    question.invariant();
     let game = question.game();
     let states = u64::from(game.states());
     let edges = game.edges_below(game.states());

@@ -59,7 +59,7 @@ pub fn nested<R: Threads + Sync, G: Gate + Sync>(
     ensures units { IfOk result (λ nested. All (λ v. v ≤ unit) nested.lower.items
         × All (λ v. v ≤ unit) nested.upper.items) }
 {
-    labels.known();
+    labels.invariant();
     let initial = initial_of(alloc, labels, owners, formula)?;
     match answer(
         rt, alloc, game, labels, owners, formula, way, workers, initial, gate,
@@ -95,7 +95,7 @@ fn answer<R: Threads + Sync, G: Gate + Sync>(
         (band_of nested) nested.how nested.inner nested.undecided) }
     ensures band { IfOk result (λ nested. IsBand (length game.now) (band_of nested)) }
 {
-    game.known();
+    game.invariant();
     let predecessors = Predecessors::of_game(alloc, game)?;
     let everywhere = every_state(alloc, game.states())?;
     let setting = Setting {

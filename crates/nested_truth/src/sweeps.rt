@@ -97,7 +97,7 @@ fn next_step<R: Threads + Sync, G: Gate + Sync>(
     ensures units { IfOk result (λ sweep. All (λ v. v ≤ unit) sweep.lower.items
         × All (λ v. v ≤ unit) sweep.upper.items) }
 {
-    question.known();
+    question.invariant();
     let table = units_of(alloc, marks)?;
     bounded(rt, alloc, question, &table, 1, workers, gate)
 }

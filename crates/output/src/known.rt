@@ -32,7 +32,7 @@ impl Refusal {
     ghost use Rattle.output.specs.Printable.{RefusalPrintable};
 
     /// Tells a proof that the numbers of a refusal are written in full. It does nothing.
-    pub fn known(&self)
+    pub fn invariant(&self)
         ensures { RefusalPrintable self.now }
     {
         match self {

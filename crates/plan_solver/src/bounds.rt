@@ -40,7 +40,7 @@ pub fn find_bounds(
     ensures lower { IfOk result (λ c. IsTableOrNone (states question.now) c.lower.items) }
     ensures upper { IfOk result (λ c. IsTableOrNone (states question.now) c.upper.items) }
 {
-    question.known();
+    question.invariant();
     if !has_open(question, sure, zero) {
         return Ok(Candidates {
             lower: Vec::new(alloc),

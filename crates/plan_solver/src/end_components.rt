@@ -93,7 +93,7 @@ impl EndComponents {
         requires state { state < states question.now }
         requires choice { choice < length (choices_of question.now.game state) }
     {
-        question.known();
+        question.invariant();
         let game = question.game();
         let own = self.lead_of(state);
         for place in 0..game.edge_count(state, choice) {
@@ -131,7 +131,7 @@ pub(crate) fn find_end_components(
 fn open_question<'q>(alloc: Global, input: &Input<'_, 'q>) -> Result<Question<'q>, OutOfMemory>
     ensures { IfOk result (λ posed. posed.game ≡ input.now.question.now.game) }
 {
-    input.question.known();
+    input.question.invariant();
     let states = input.question.game().states();
     let goals = vec![in alloc; false; states as usize]?;
     let mut sides = Vec::with_capacity(alloc, states as usize)?;

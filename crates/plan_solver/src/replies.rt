@@ -65,7 +65,7 @@ fn best_reply(question: &Question, upper: &[f64], state: u32) -> Reply
     requires { state < states question.now }
 {
     let row = question.row(state);
-    row.known();
+    row.invariant();
     let mut best = Reply {
         choice: 0,
         value: value_of(&row, upper, 0),

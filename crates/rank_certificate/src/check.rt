@@ -62,7 +62,7 @@ pub fn check_ranks(
     ensures fault { IfErr result (λ fault. IsRankFault question.now values.now choices.now ranks.now fault.state
         fault.cause) }
 {
-    question.known();
+    question.invariant();
     if let Some(state) = first_over(values) {
         return Err(RankFault {
             state,
@@ -109,7 +109,7 @@ fn check_state(
     ensures cause { IfErr result (IsCauseAt question.now (slice_index values.now)
         (slice_index ranks.now) choices.now state) }
 {
-    question.known();
+    question.invariant();
     let value = values[state as usize];
     if question.is_goal(state) {
         return if value == UNIT {
@@ -154,7 +154,7 @@ fn check_given(
     ensures cause { IfErr result (IsCauseAt question.now (slice_index values.now)
         (slice_index ranks.now) choices.now state) }
 {
-    question.known();
+    question.invariant();
     let Some(choice) = choices[state as usize] else {
         return Err(RankCause::Choice);
     };
@@ -183,7 +183,7 @@ fn check_all(
     ensures cause { IfErr result (IsCauseAt question.now (slice_index values.now)
         (slice_index ranks.now) choices.now state) }
 {
-    question.known();
+    question.invariant();
     for choice in 0..question.game().choices_of(state) {
         check_choice(question, values, ranks, state, choice)?;
     }

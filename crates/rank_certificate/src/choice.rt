@@ -31,7 +31,7 @@ pub fn check_choice(
     ensures lack { IfErr result (IsLackOf (slice_index values.now) (slice_index ranks.now) state
         (choice_of question.now.game state choice) choice) }
 {
-    question.known();
+    question.invariant();
     if !gives(&question.row(state), choice, values, values[state as usize]) {
         return Err(RankCause::Short { choice });
     }
@@ -50,7 +50,7 @@ fn leads_onward(question: &Question, values: &[u64], ranks: &[u32], state: u32, 
     ensures { IsTrue result ↔ LeadsOnward (slice_index values.now) (slice_index ranks.now) state
         (choice_of question.now.game state choice) }
 {
-    question.known();
+    question.invariant();
     for place in 0..question.game().edge_count(state, choice) {
         let to = question.game().edge(state, choice, place).to;
         if is_onward(values, ranks, state, to) {

@@ -49,7 +49,7 @@ pub fn find_ranks_over(
     ensures ranked { IfOk result (λ ranks. Ranked question.now values.now choices.now ranks.items) }
     ensures layered { IfOk result (λ ranks. AreLayered question.now values.now choices.now ranks.items) }
 {
-    question.known();
+    question.invariant();
     let layers = whole_growth(alloc, question, values, Some(choices), predecessors)?;
     let ranks = all_ranks(alloc, &layers.ranks)?;
     Ok(ranks.unwrap())

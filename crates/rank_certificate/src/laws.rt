@@ -32,7 +32,7 @@ pub fn ranks_reach(question: &Question, values: &[u64], choices: &[Option<u32>],
     requires { Ranked question.now values.now choices.now ranks.now }
     ensures { ReachesUnder question.now choices.now (slice_index values.now) }
 {
-    question.known();
+    question.invariant();
 }
 
 /// If choices and ranks prove values, k-step values come as near to the values as one likes, at all states at once.
@@ -46,7 +46,7 @@ pub fn ranked_is_near(question: &Question, values: &[u64], choices: &[Option<u32
     requires { Ranked question.now values.now choices.now ranks.now }
     ensures { IsNear question.now (slice_index values.now) }
 {
-    question.known();
+    question.invariant();
 }
 
 /// The ranks of a layered plan are the layered ranks of its values and choices, as [`crate::find_ranks`] gives them.
@@ -59,7 +59,7 @@ pub fn layered_plans_are_layered(
     requires { IsLayeredPlan question.now values.now choices.now ranks.now }
     ensures { AreLayered question.now values.now choices.now ranks.now }
 {
-    question.known();
+    question.invariant();
 }
 
 /// A layered plan has no choice at a goal, a dead state, a state of the minimiser and a state of value 0.
@@ -80,5 +80,5 @@ pub fn layered_plans_choose(
     ensures none_at_zero { (s : ℕ) → s < states question.now → slice_index values.now s ≡ 0
         → slice_index_or choices.now s None ≡ None }
 {
-    question.known();
+    question.invariant();
 }

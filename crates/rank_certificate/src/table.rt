@@ -66,7 +66,7 @@ pub fn rank_table_over(
     ensures ranked { IfOk result (λ found. IfSome found (λ plan.
         Ranked question.now values.now plan.choices.items plan.ranks.items)) }
 {
-    question.known();
+    question.invariant();
     if let Some(_over) = first_over(values) {
         return Ok(None);
     }
@@ -93,7 +93,7 @@ pub fn rank_standing(
     ensures ranked { IfOk result (λ found. IfSome found (λ plan.
         Ranked question.now values.now plan.choices.items plan.ranks.items)) }
 {
-    question.known();
+    question.invariant();
     let layers = whole_growth(alloc, question, values, None, predecessors)?;
     let Some(ranks) = all_ranks(alloc, &layers.ranks)? else {
         return Ok(None);
@@ -119,7 +119,7 @@ pub fn whole_growth(
     ensures { IfOk result (λ g. IsGrown question.now (slice_index values.now)
         (option_copied only.entry) g.ranks.items g.choices.items) }
 {
-    question.known();
+    question.invariant();
     let asked = Asked {
         question,
         values,

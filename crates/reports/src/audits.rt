@@ -37,7 +37,7 @@ pub fn audit_report(
     ensures answer { IfOk result (λ answer. IsAnswer answer.status) }
 {
     // These calls do nothing: they recall what a question keeps, and two laws.
-    question.known();
+    question.invariant();
     undecided_thresholds_are_left_open();
     mirrored_verdicts_are_those_of_the_dual();
     report_of(

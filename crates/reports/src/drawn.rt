@@ -34,9 +34,9 @@ pub fn drawn_report<R: Threads + Sync, G: Gate + Sync>(
     ensures answer { IfOk result (λ answer. IsAnswer answer.status) }
 {
     let drawn = draw_game(alloc, make.seed, make.states)?;
-    drawn.known();
+    drawn.invariant();
     let question = drawn.question(alloc)?;
-    question.known();
+    question.invariant();
     let predecessors = Predecessors::of_game(alloc, question.game())?;
     let found = bracket_for(
         rt,

@@ -56,7 +56,7 @@ pub fn nested_report<R: Threads + Sync, G: Gate + Sync>(
         return Err(OutOfMemory {});
     };
     // These calls do nothing: they recall what a game and the numbers keep.
-    loaded.game.known();
+    loaded.game.invariant();
     known_numbers(found.how, found.inner, found.undecided);
     written(alloc, loaded, &found)
 }

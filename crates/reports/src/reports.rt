@@ -74,7 +74,7 @@ pub fn bracket_report<R: Threads + Sync, G: Gate + Sync>(
         gate,
     )?;
     // These calls do nothing: they recall what a question keeps, and a law.
-    question.known();
+    question.invariant();
     mirrored_verdicts_are_those_of_the_dual();
     let found = bracketed.bracket;
     let how = How::Rounds(found.rounds);

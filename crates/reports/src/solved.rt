@@ -55,7 +55,7 @@ pub fn solved_report<R: Threads + Sync, G: Gate + Sync>(
         gate,
     )?;
     // These calls do nothing: they recall what a question keeps, and two laws.
-    question.known();
+    question.invariant();
     undecided_thresholds_are_left_open();
     mirrored_verdicts_are_those_of_the_dual();
     let formulas = Formulas { spelled, answered };

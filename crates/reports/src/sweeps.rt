@@ -42,7 +42,7 @@ pub fn within_report<R: Threads + Sync, G: Gate + Sync>(
     ensures answer { IfOk result (λ answer. IsAnswer answer.status) }
 {
     // These calls do nothing: they recall what a question keeps, and a law.
-    posed.question.known();
+    posed.question.invariant();
     exact_values_are_k_step_values();
     let sweep = bounded_values(rt, alloc, &posed.question, steps, workers, gate)?;
     sweep_report(
@@ -73,7 +73,7 @@ pub fn next_report<R: Threads + Sync, G: Gate + Sync>(
     ensures answer { IfOk result (λ answer. IsAnswer answer.status) }
 {
     // These calls do nothing: they recall what a question keeps, and a law.
-    posed.question.known();
+    posed.question.invariant();
     one_step_is_the_next_value();
     let question = &posed.question;
     let sweep = bounded(rt, alloc, question, &posed.opening, 1, workers, gate)?;
@@ -102,7 +102,7 @@ fn sweep_report(
     ensures answer { IfOk result (λ answer. IsAnswer answer.status) }
 {
     // These calls do nothing: they recall what a question keeps, and two laws.
-    question.known();
+    question.invariant();
     rounded_steps_bracket_exact_values();
     verdicts_of_fractions_are_right();
     report_of(

@@ -16,7 +16,7 @@ pub fn sinks(question: &Question, finite: &[bool], ranks: &[u32], state: u32, ch
     ensures { IsTrue result ↔ Sinks finite.now (slice_index ranks.now) state
         (choice_of question.now.game state choice) }
 {
-    question.known();
+    question.invariant();
     for place in 0..question.game().edge_count(state, choice) {
         let to = question.game().edge(state, choice, place).to;
         if !finite[to as usize] && ranks[to as usize] < ranks[state as usize] {
@@ -35,7 +35,7 @@ pub fn lingers(question: &Question, finite: &[bool], ranks: &[u32], state: u32, 
     ensures { IsTrue result ↔ Lingers finite.now (slice_index ranks.now) state
         (choice_of question.now.game state choice) }
 {
-    question.known();
+    question.invariant();
     for place in 0..question.game().edge_count(state, choice) {
         let to = question.game().edge(state, choice, place).to;
         if finite[to as usize] || ranks[state as usize] < ranks[to as usize] {

@@ -39,7 +39,7 @@ pub fn is_covered(
     ensures { IsTrue result ↔ IsCovered (slice_index table.now) (slice_index table.now state)
         (flat_rewards question.now.game rewards.now state choice) (choice_of question.now.game state choice) }
 {
-    question.known();
+    question.invariant();
     let reward = reward_of(question, rewards, state, choice);
     let entry = table[state as usize];
     if entry < reward {
@@ -57,7 +57,7 @@ pub fn is_paid(question: &Question, rewards: &[u64], table: &[u64], state: u32, 
     ensures { IsTrue result ↔ IsPaid (slice_index table.now) (slice_index table.now state)
         (flat_rewards question.now.game rewards.now state choice) (choice_of question.now.game state choice) }
 {
-    question.known();
+    question.invariant();
     let reward = reward_of(question, rewards, state, choice);
     let entry = table[state as usize];
     if entry <= reward {

@@ -16,7 +16,7 @@ pub fn leads_away(question: &Question, marks: &[bool], state: u32, choice: u32) 
     ensures yes { IsTrue result → LeadsAway marks.now (choice_of question.now.game state choice) }
     ensures no { result ≡ false → StaysFinite marks.now (choice_of question.now.game state choice) }
 {
-    question.known();
+    question.invariant();
     for place in 0..question.game().edge_count(state, choice) {
         let to = question.game().edge(state, choice, place).to;
         if !marks[to as usize] {
@@ -33,7 +33,7 @@ pub fn leads_down(question: &Question, ranks: &[u32], state: u32, choice: u32) -
     requires choice { choice < length (choices_of question.now.game state) }
     ensures { IsTrue result ↔ LeadsDown (slice_index ranks.now) state (choice_of question.now.game state choice) }
 {
-    question.known();
+    question.invariant();
     for place in 0..question.game().edge_count(state, choice) {
         let to = question.game().edge(state, choice, place).to;
         if ranks[to as usize] < ranks[state as usize] {

@@ -36,7 +36,7 @@ pub fn taken(tables: &RewardTables<'_>, part: Part, state: u32) -> Option<Choice
     ensures none { IfNone result (¬ HasChoice part (said tables.now) state) }
     ensures some { IfSome result (IsRangeOf part (said tables.now) state) }
 {
-    tables.question.known();
+    tables.question.invariant();
     let choices = tables.question.game().choices_of(state);
     if !same(tables.question.side(state), planner(part)) {
         return Some(ChoiceRange {

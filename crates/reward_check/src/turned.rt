@@ -11,7 +11,7 @@ use std::alloc::Global;
 pub fn turn<'g>(alloc: Global, question: &Question<'g>) -> Result<Question<'g>, OutOfMemory>
     ensures { IfOk result (λ other. other ≡ turned question.now) }
 {
-    question.known();
+    question.invariant();
     let states = question.game().states();
     let mut sides = Vec::new(alloc);
     let mut goals = Vec::new(alloc);

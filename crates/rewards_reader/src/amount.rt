@@ -53,12 +53,12 @@ impl Amount {
     pub(crate) fn of_number(number: &Frac) -> Amount
         ensures { result ≡ number.now }
     {
-        number.known();
+        number.invariant();
         Amount::of(number.num(), number.den())
     }
 
     /// Tells a proof which facts hold for every amount. It does nothing.
-    pub fn known(&self)
+    pub fn invariant(&self)
         ensures { IsAmount self.now }
     {
         let _ = &self.num;

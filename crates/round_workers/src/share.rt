@@ -15,7 +15,7 @@ pub fn worker_of(game: &Game, workers: u32, state: u32) -> u32
     requires state { state < length game.now }
     ensures { result ≡ worker_of game.now workers state }
 {
-    game.known();
+    game.invariant();
     let below = game.edges_below(state) * u64::from(workers);
     (below / game.edges_below(game.states())) as u32
 }
@@ -25,7 +25,7 @@ pub fn first_state(game: &Game, workers: u32, worker: u32) -> u32
     requires few { workers ≤ most_workers }
     ensures { BeginsBlock game.now workers worker result }
 {
-    game.known();
+    game.invariant();
     let mut low = 0;
     let mut high = game.states();
     while low < high {

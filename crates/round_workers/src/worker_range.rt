@@ -32,7 +32,7 @@ impl WorkerRange {
         ensures low { result.low ≡ 0 }
         ensures high { result.high ≡ length game.now }
     {
-        game.known();
+        game.invariant();
         WorkerRange {
             workers,
             first: 0,

@@ -29,7 +29,7 @@ pub(crate) fn value_bracket<R: Threads + Sync, G: Gate + Sync>(
     requires some { 1 ≤ workers }
     requires few { workers ≤ most_workers }
 {
-    question.known();
+    question.invariant();
     let zero = zero_set(alloc, question)?;
     let stop = StopRule::of_bound(Bound::AskMax, |lower, upper| {
         settle(&Bound::AskMax, lower, upper).is_settling()

@@ -59,7 +59,7 @@ pub(crate) fn guess_by<M: UpTables>(
     requires many { length lower.now ≡ states question.now }
     requires units { All (λ v. v ≤ unit) lower.now }
 {
-    question.known();
+    question.invariant();
     let counted = Counted::of(maker);
     let guess = guess_with(
         &counted,

@@ -39,7 +39,7 @@ fn add_state_text(
 ) -> Result<(), AllocError>
     requires { state < length drawn.now.game }
 {
-    drawn.known();
+    drawn.invariant();
     let game = drawn.game();
     text.push_str(side_text(drawn.sides()[state as usize]))?;
     for choice in 0..game.choices_of(state) {

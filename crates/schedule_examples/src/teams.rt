@@ -72,7 +72,7 @@ fn teams_agree_from_nothing<R: Threads + Sync>(
     alloc: Global,
     question: &Question<'_>,
 ) -> Result<(), Fail> {
-    question.known();
+    question.invariant();
     let lower = vec![in alloc; 0; question.game().states() as usize]?;
     teams_agree(rt, alloc, question, &lower)
 }

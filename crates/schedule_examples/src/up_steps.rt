@@ -34,7 +34,7 @@ fn up_steps<R: Threads + Sync>(
 ) -> Result<u64, Fail>
     requires { rounds ≤ most_rounds }
 {
-    question.known();
+    question.invariant();
     let predecessors = Predecessors::of_game(alloc, question.game())?;
     let found = bracket_for(
         rt,
@@ -160,7 +160,7 @@ fn check_steps(alloc: Global, question: &Question<'_>, lower: &[u64]) -> Result<
     requires many { length lower.now ≡ states question.now }
     requires units { All (λ v. v ≤ unit) lower.now }
 {
-    question.known();
+    question.invariant();
     let zero = zero_set(alloc, question)?;
     let counted = Counted::of(&Alone {});
     let mut witnesses = Witnesses::none();

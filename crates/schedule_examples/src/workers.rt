@@ -96,7 +96,7 @@ fn race_reaches_the_values<R: Threads + Sync>(
     alloc: Global,
     question: &Question<'_>,
 ) -> Result<(), Fail> {
-    question.known();
+    question.invariant();
     let mut seen = vec![in alloc; 0u64; question.game().states() as usize]?;
     let words = two_threads::<Brand, _>(rt, alloc, question, &mut seen).ok_or("memory")?;
     are_read(words.as_slice(), &seen)?;
@@ -140,7 +140,7 @@ fn rounds<R: Threads + Sync>(
     count: u32,
     gate: &HoldGate,
 ) -> Option<Words> {
-    question.known();
+    question.invariant();
     let states = question.game().states() as usize;
     let predecessors = Predecessors::of_game(alloc, question.game()).ok()?;
     let marks = vec![in alloc; true; states].ok()?;

@@ -64,7 +64,7 @@ fn inductive_table(
     ensures values { IfOk result (λ table. IsUpperOf question.now sure.now zero.now
         (counted (states question.now) candidate.now) table.items) }
 {
-    question.known();
+    question.invariant();
     let table = upper_table(alloc, question, sure, zero, counted_of(question, candidate))?;
     if check_upper(question, &table).is_ok() {
         return Ok(table);

@@ -29,7 +29,7 @@ pub fn almost_sure_states_are_reached(
     requires table { IsTable question.now (lower_bound sure.now zero.now []) values.now }
     ensures { CanBeRanked question.now values.now }
 {
-    question.known();
+    question.invariant();
 }
 
 /// The upper table of an empty candidate is inductive.
@@ -43,5 +43,5 @@ pub fn bounds_of_no_entry_are_inductive(
     requires table { IsTable question.now (upper_bound sure.now zero.now []) values.now }
     ensures { IsInductive question.now (slice_index values.now) }
 {
-    question.known();
+    question.invariant();
 }

@@ -49,7 +49,7 @@ pub fn certify(
     ensures bounds { IfOk result (λ plan. AreBoundsOf question.now candidates.now.lower.items candidates.now.upper.items
         plan.lower.items plan.upper.items) }
 {
-    question.known();
+    question.invariant();
     let reached = reached_table(alloc, question, predecessors, sure, zero, &candidates.lower)?;
     let held = held_table(alloc, question, sure, zero, &candidates.upper)?;
     Ok(Plan {

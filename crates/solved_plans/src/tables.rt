@@ -14,7 +14,7 @@ use std::alloc::Global;
 pub fn counted_of<'a>(question: &Question, candidate: &'a [u64]) -> &'a [u64]
     ensures { result.now ≡ counted (states question.now) candidate.now }
 {
-    question.known();
+    question.invariant();
     if candidate.len() == question.game().states() as usize {
         candidate
     } else {

@@ -237,7 +237,7 @@ fn add_choice(
     requires state { state < states question.now }
     requires choice { choice < length (choices_of question.now.game state) }
 {
-    question.known();
+    question.invariant();
     for place in 0..question.game().edge_count(state, choice) {
         let edge = question.game().edge(state, choice, place);
         let weight = nearest_u64_to_f64(u64::try_from(edge.weight).unwrap_or(1));
@@ -330,8 +330,8 @@ fn check_state(
     requires upper { length upper.now ≡ states question.now }
     requires state { state < states question.now }
 {
-    lower.known();
-    upper.known();
+    lower.invariant();
+    upper.invariant();
     let below = lower.get(state);
     let above = upper.get(state);
     let (down, _) = down_state(question, state, lower.entries());

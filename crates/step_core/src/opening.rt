@@ -13,7 +13,7 @@ use std::alloc::Global;
 pub fn opening_words(alloc: Global, question: &Question<'_>) -> Result<Vec<u64>, OutOfMemory>
     ensures { IfOk result (λ words. words.items ≡ opening_words question.now) }
 {
-    question.known();
+    question.invariant();
     let mut words = Vec::new(alloc);
     for state in 0..question.game().states() {
         let Ok(()) = words.push(opening_word(question, state)) else {

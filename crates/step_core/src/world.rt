@@ -47,7 +47,7 @@ impl<'q> World<'q> {
     pub fn start(alloc: Global, question: &'q Question<'q>) -> Result<World<'q>, OutOfMemory>
         ensures { IfOk result (λ w. w ≡ opening_configuration question.now) }
     {
-        question.known();
+        question.invariant();
         let words = opening_words(alloc, question)?;
         let view = View::of_words(alloc, words.as_slice())?;
         let mut views = Vec::new(alloc);
@@ -72,7 +72,7 @@ impl<'q> World<'q> {
         ensures unlawful { IfErr result (λ refused. (refused ≡ Refused.OutOfMemory) ⊎ (Lawful self.old event → ⊥)) }
         ensures refused { OnErr result (self.new ≡ self.old) }
     {
-        self.known();
+        self.invariant();
         match event {
             Event::Load { view, state } => self.load(view, state),
             Event::Won {
@@ -107,7 +107,7 @@ impl<'q> World<'q> {
     }
 
     // Tells a proof what every world keeps. It does nothing.
-    fn known(&self)
+    fn invariant(&self)
         ensures { IsWorld self.now }
     {
         let _ = &self.words;

@@ -65,7 +65,7 @@ fn end_with_refusal<K: Sink>(alloc: Global, out: &mut K, refusal: &Refusal) -> S
     ensures read_fault { result ≢ Status.ReadFault }
     ensures write_fault { result ≡ Status.WriteFault → Rose (K.faults out.old) (K.faults out.new) }
 {
-    refusal.known();
+    refusal.invariant();
     match refusal_line(alloc, refusal) {
         Ok(line) => say(out, &line, refused_status(refusal)),
         Err(_) => Status::OutOfMemory,

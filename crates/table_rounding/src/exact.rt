@@ -220,7 +220,7 @@ pub fn single_entry(question: &Question, table: &UnitTable, bound: Bound, state:
     requires { state < states question.now }
     ensures { result.choice < length (choices_of question.now.game state) }
 {
-    question.known();
+    question.invariant();
     let mut best: Option<Entry> = None;
     let row = question.row(state);
     for choice in 0..row.choices() {

@@ -35,7 +35,7 @@ impl UnitTable {
     }
 
     /// Tells a proof what holds for every table. It does nothing.
-    pub fn known(&self)
+    pub fn invariant(&self)
         ensures { All (λ v. v ≤ unit) self.now }
     {
         let _ = &self.entries;

@@ -26,7 +26,7 @@ const CHOICES: &[(&[u8], &str)] = &[
 
 // Writes the total of choice 0 of state 0, and its edges with their weights.
 fn first_choice(alloc: Global, game: &Game) -> Result<String, AllocError> {
-    game.known();
+    game.invariant();
     let mut text = format!(in alloc; "{}", game.total(0, 0))?;
     for place in 0..game.edge_count(0, 0) {
         let edge = game.edge(0, 0, place);

@@ -15,7 +15,7 @@ pub fn stays(question: &Question, of: &[u32], state: u32, choice: u32) -> bool
     ensures yes { IsTrue result → Stays question.now of.now state choice }
     ensures no { result ≡ false → Leaves question.now of.now state choice }
 {
-    question.known();
+    question.invariant();
     let own = of[state as usize];
     for to in question.game().successors(state, choice) {
         if of[*to as usize] != own {

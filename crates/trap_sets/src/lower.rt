@@ -73,7 +73,7 @@ pub fn lower_traps_over(
     ensures replies { IfOk result (λ table. AreReplies question.now (slice_index table.items) replies.now) }
     ensures holds { IfOk result (λ table. HoldsUnder question.now replies.now (slice_index table.items)) }
 {
-    question.known();
+    question.invariant();
     let sets = traps_over(alloc, question, predecessors, replies)?;
     let handed = Table {
         question,

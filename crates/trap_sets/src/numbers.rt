@@ -55,7 +55,7 @@ pub fn traps_over(
     requires lists { ArePredecessors question.now.game predecessors.now }
     ensures { IfOk result (λ sets. AreTraps question.now replies.now sets.of.items sets.count) }
 {
-    question.known();
+    question.invariant();
     let mdp = ReplyMdp {
         question,
         replies,

@@ -56,7 +56,7 @@ pub fn guess<'a>(
     ensures inductive { IfOk result (λ table. IsInductive question.now (slice_index table.items)) }
     ensures high { IfOk result (λ table. IsHigh question.now (slice_index table.items)) }
 {
-    question.known();
+    question.invariant();
     guess_with(
         &Alone {},
         alloc,
@@ -89,7 +89,7 @@ pub fn guess_with<'a, M: UpTables>(
     ensures inductive { IfOk result (λ table. IsInductive question.now (slice_index table.items)) }
     ensures high { IfOk result (λ table. IsHigh question.now (slice_index table.items)) }
 {
-    question.known();
+    question.invariant();
     for place in 0..LAST_PLACE + 1 {
         let guesses = Guesses {
             question,

@@ -43,7 +43,7 @@ impl Guesses<'_> {
         ensures inside { IfSome result (λ s. s < states self.now.question.now) }
         ensures refused { IfSome result (λ s. IsRefusedOf self.now steps) }
     {
-        self.question.known();
+        self.question.invariant();
         let states = self.question.game().states();
         let mut budget = states / SAMPLED;
         for turn in 0..states / SAMPLED {

@@ -21,7 +21,7 @@ pub fn fill_part(question: &Question, table: &[u64], first: u32, part: &mut [u64
     requires part { first + length part.old ≤ states question.now }
     ensures { IsFilled question.now table.now first (length part.old) part.new }
 {
-    question.known();
+    question.invariant();
     let mut from = 0;
     while from < part.len() {
         let to = part.len().min(from + STRETCH);
@@ -77,7 +77,7 @@ fn fill_stretch(
     requires before { IsFilled question.now table.now first from part.old }
     ensures { IsFilled question.now table.now first to part.new }
 {
-    question.known();
+    question.invariant();
     for place in from..to {
         part[place] = up_state(question, first + place as u32, table);
     }

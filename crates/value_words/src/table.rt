@@ -74,7 +74,7 @@ impl<'q, P: Posing> ValueTable<'q, P> {
         ensures { IfOk result (λ r. IsOf r.0 r.1 × (words_seen r.1 ≡ opening_words P.posed) × (won_by r.1 ≡ 0)
             × (parts_of r.1 ≡ all_parts)) }
     {
-        question.known();
+        question.invariant();
         let words = opening_words(alloc, question)?;
         match Table::of_words(alloc, words.as_slice(), &()) {
             Ok((table, seat)) => Ok((

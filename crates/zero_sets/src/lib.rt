@@ -35,7 +35,7 @@ pub fn zero_set_over(
     requires { ArePredecessors question.now.game predecessors.now }
     ensures { IfOk result (λ marks. IsZeroSet question.now marks) }
 {
-    question.known();
+    question.invariant();
     let reached = attractor_of(alloc, question, predecessors, &ExcludedDead {})?;
     Ok(Marks::of_list(complement(alloc, &reached)?))
 }

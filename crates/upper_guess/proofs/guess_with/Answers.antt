@@ -11,13 +11,13 @@ inductive_is_high-requires t c =
     let found : IsFirstAt c.args.question.now c.args.zero.now (slice_index c.args.lower.now) c.excess_at.result
     c.in-Some.table.items = rw c.in-Some.is at c.in_ok-table.ensures.found in
     rw c.deref.ensures.value
-    (IsInductive-list c.args.question.now _ c.in-Some.table.items c.known.ensures found.entries found.accepted)
+    (IsInductive-list c.args.question.now _ c.in-Some.table.items c.invariant.ensures found.entries found.accepted)
 
 pub returns-in-Some-clause-inductive : goal.returns-in-Some-clause-inductive
 returns-in-Some-clause-inductive t c =
     let found : IsFirstAt c.args.question.now c.args.zero.now (slice_index c.args.lower.now) c.excess_at.result
     c.in-Some.table.items = rw c.in-Some.is at c.in_ok-table.ensures.found in
-    IsInductive-list c.args.question.now _ c.in-Some.table.items c.known.ensures found.entries found.accepted
+    IsInductive-list c.args.question.now _ c.in-Some.table.items c.invariant.ensures found.entries found.accepted
 
 pub loop-place-preserved : goal.loop-place-preserved
 loop-place-preserved t c =
@@ -34,4 +34,4 @@ loop-place-preserved t c =
 
 pub unreachable-requires : goal.unreachable-requires
 unreachable-requires t c = not-all-refused c.args.question.now c.args.zero.now (slice_index c.args.lower.now)
-    c.known.ensures c.requires.zero (c.loop-place.invariant.refused last_place (omega (arith, c.loop-place-test.false)))
+    c.invariant.ensures c.requires.zero (c.loop-place.invariant.refused last_place (omega (arith, c.loop-place-test.false)))

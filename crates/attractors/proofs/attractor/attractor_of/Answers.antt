@@ -11,7 +11,7 @@ returns g c =
     let excluded : ExcludedSets = g.S.Excluded.excluded c.args.excluded.now q in
     let search = c.loop-place.search in
     IsAttractor-grown q excluded c.args.predecessors.now search.members.items search.next_choice.items search.order.items
-    c.known.ensures c.requires.lists
+    c.invariant.ensures c.requires.lists
     (subst (λ (list : List ℕ). IsAttractorSearch q excluded
     (moves_into c.args.predecessors.now list) search.members.items search.next_choice.items search.order.items)
     (take_all c.loop-place.place search.order.items

@@ -15,7 +15,7 @@ bounds-set-to c =
     ∙ ap (λ g. destinations (choice_of g c.args.state c.args.choice).edges) c.game.ensures in
     omega (
       arith,
-      successor-within _ _ _ c.loop-to.to-index _ c.known.ensures.game c.requires.state c.requires.choice to
+      successor-within _ _ _ c.loop-to.to-index _ c.invariant.ensures.game c.requires.state c.requires.choice to
           c.loop-to-test.true,
       c.requires.many,
     )

@@ -29,7 +29,7 @@ returns-then-not-step-clause-sweep g c =
     let stepped = subst (λ (t : List Bounds). IsStepped q t 0 (states q) c.step.new.next c.step.result)
     c.deref.ensures.value c.step.ensures in
     IsSweep-rests q (slice_index (lowers c.args.table.items)) c.loop-done._done c.args.steps c.loop-done.table.items
-    c.step.new.next c.step.result c.known.ensures (omega arith) c.loop-done.invariant.sweep stepped c.if-not-step.true
+    c.step.new.next c.step.result c.invariant.ensures (omega arith) c.loop-done.invariant.sweep stepped c.if-not-step.true
 
 pub loop-done-preserved : goal.loop-done-preserved
 loop-done-preserved g c =
@@ -43,7 +43,7 @@ loop-done-preserved g c =
     (omega (arith, many, h.next, c.loop-done.next.ok)) in
     rw (c.swap.ensures.x_after, c.swap.ensures.y_after, back) record {
       sweep = IsSweep-next q (slice_index (lowers c.args.table.items)) c.loop-done._done c.loop-done.table.items next
-          c.step.result c.known.ensures h.sweep many stepped;
+          c.step.result c.invariant.ensures h.sweep many stepped;
       table = IsBoundsTable-step q c.loop-done.table.items next c.step.result many stepped;
       next = h.table.many;
       used = c.busy_workers-used.ensures.some;

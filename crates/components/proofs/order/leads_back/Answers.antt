@@ -15,7 +15,7 @@ bounds-component-to c =
     omega (
       arith,
       c.requires.many,
-      successor-inside q.game c.args.state c.args.choice _ _ to c.known.ensures.game c.requires.state
+      successor-inside q.game c.args.state c.args.choice _ _ to c.invariant.ensures.game c.requires.state
           c.requires.choice c.loop-to-test.true,
     )
 

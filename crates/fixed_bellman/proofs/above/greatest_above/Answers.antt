@@ -11,7 +11,7 @@ quotient-given-requires-clause-fits g c =
     let values = c.args.values.now in
     let middle = c.loop-choice.pass in
     row-fits c.args.question.now c.args.state c.loop-choice.choice c.row-row.result
-    (g.V.Values.fits values middle) c.known.ensures c.requires.state c.row-row.ensures
+    (g.V.Values.fits values middle) c.invariant.ensures c.requires.state c.row-row.ensures
     (omega (arith, c.choices-choice-end.ensures, c.loop-choice-test.true))
     (λ t inside. laws.carried values c.args.pass.now middle t c.loop-choice.invariant.onward (c.requires.fits t inside))
 
@@ -26,7 +26,7 @@ loop-choice-preserved g c =
     let h = c.loop-choice.invariant in
     let e = c.quotient-given.ensures in
     let read : ReadChoice c.args.question.now c.args.state c.loop-choice.choice c.quotient-given.result (seen start)
-    (seen middle) (seen end) = read-choice c.known.ensures c.requires.state c.row-row.ensures
+    (seen middle) (seen end) = read-choice c.invariant.ensures c.requires.state c.row-row.ensures
     c.choices-choice-end.ensures c.loop-choice-test.true e.between (laws.rises values start middle h.onward)
     (laws.rises values middle end e.onward) in
     let best : ℕ = c.loop-choice.best in

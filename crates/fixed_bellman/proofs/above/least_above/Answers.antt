@@ -14,7 +14,7 @@ loop-choice-init g c =
     let q = c.args.question.now in
     let s : ℕ = c.args.state in
     let start = c.args.pass.now in
-    let some : 0 < length (choices_of q.game s) = c.known.ensures.game.chosen s c.requires.state in record {
+    let some : 0 < length (choices_of q.game s) = c.invariant.ensures.game.chosen s c.requires.state in record {
       onward = laws.still values start;
       floor = c.requires.floor;
       units = omega arith;
@@ -22,7 +22,7 @@ loop-choice-init g c =
         0,
         some,
         down_value-units q.game (seen start) (choice_of q.game s 0)
-            (choice_fits q s 0 c.known.ensures c.requires.state some)
+            (choice_fits q s 0 c.invariant.ensures c.requires.state some)
             (λ t inside. laws.units values start t (c.requires.fits t inside)),
       );
       given = λ d none. absurd (omega arith);
@@ -39,7 +39,7 @@ returns-then-not-down_above-clause-low g c =
     let h = c.loop-choice.invariant in
     let e = c.quotient-given.ensures in
     let read : ReadChoice c.args.question.now c.args.state c.loop-choice.choice c.quotient-given.result (seen start)
-    (seen middle) (seen end) = read-choice c.known.ensures c.requires.state c.row-row.ensures
+    (seen middle) (seen end) = read-choice c.invariant.ensures c.requires.state c.row-row.ensures
     c.choices-choice-end.ensures c.loop-choice-test.true e.between (laws.rises values start middle h.onward)
     (laws.rises values middle end e.onward) in
     let stays : rounded_down c.quotient-given.result ≤ c.args.floor =
@@ -52,7 +52,7 @@ quotient-given-requires-clause-fits g c =
     let values = c.args.values.now in
     let middle = c.loop-choice.pass in
     row-fits c.args.question.now c.args.state c.loop-choice.choice c.row-row.result
-    (g.V.Values.fits values middle) c.known.ensures c.requires.state c.row-row.ensures
+    (g.V.Values.fits values middle) c.invariant.ensures c.requires.state c.row-row.ensures
     (omega (arith, c.choices-choice-end.ensures, c.loop-choice-test.true))
     (λ t inside. laws.carried values c.args.pass.now middle t c.loop-choice.invariant.onward (c.requires.fits t inside))
 
@@ -67,7 +67,7 @@ loop-choice-preserved g c =
     let h = c.loop-choice.invariant in
     let e = c.quotient-given.ensures in
     let read : ReadChoice c.args.question.now c.args.state c.loop-choice.choice c.quotient-given.result (seen start)
-    (seen middle) (seen end) = read-choice c.known.ensures c.requires.state c.row-row.ensures
+    (seen middle) (seen end) = read-choice c.invariant.ensures c.requires.state c.row-row.ensures
     c.choices-choice-end.ensures c.loop-choice-test.true e.between (laws.rises values start middle h.onward)
     (laws.rises values middle end e.onward) in
     let best : ℕ = c.loop-choice.best in

@@ -34,7 +34,7 @@ returns-in-Min-clause-step g c =
         greatest = λ is. absurd (let never : Min ≢ Max = (cc) in never (c.in-Min.ensures ∙ is));
         least = λ _. (refl, e.given above);
       };
-      inside = c.known.ensures.game.chosen c.args.state c.requires.state;
+      inside = c.invariant.ensures.game.chosen c.args.state c.requires.state;
       first = λ d below. absurd (omega arith);
       least = λ _. refl;
     }

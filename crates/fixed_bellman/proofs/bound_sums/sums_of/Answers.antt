@@ -6,14 +6,14 @@ use Rattle.fixed_bellman.proofs.bound_sums.sums_of.Goals as goal
 
 pub narrow_sums-lower-requires-clause-inside : goal.narrow_sums-lower-requires-clause-inside
 narrow_sums-lower-requires-clause-inside c =
-    all-to (c.known.ensures.distributions c.args.choice c.requires.choice) c.successors-successors.ensures
+    all-to (c.invariant.ensures.distributions c.args.choice c.requires.choice) c.successors-successors.ensures
     c.narrow_weights-weights.ensures
     (λ t. t < length c.args.table.now) c.requires.inside
 
 pub narrow_sums-lower-requires-clause-narrow : goal.narrow_sums-lower-requires-clause-narrow
 narrow_sums-lower-requires-clause-narrow c =
     let fine : IsDistribution (choice_among c.args.row.now c.args.choice) =
-    c.known.ensures.distributions c.args.choice c.requires.choice in
+    c.invariant.ensures.distributions c.args.choice c.requires.choice in
     omega (
       arith,
       c.requires.total,
@@ -23,14 +23,14 @@ narrow_sums-lower-requires-clause-narrow c =
 
 pub middle_sums-requires-clause-inside : goal.middle_sums-requires-clause-inside
 middle_sums-requires-clause-inside c =
-    all-to (c.known.ensures.distributions c.args.choice c.requires.choice) c.successors-successors.ensures
+    all-to (c.invariant.ensures.distributions c.args.choice c.requires.choice) c.successors-successors.ensures
     c.narrow_weights-weights.ensures
     (λ t. t < length c.args.table.now) c.requires.inside
 
 pub middle_sums-requires-clause-small : goal.middle_sums-requires-clause-small
 middle_sums-requires-clause-small c =
     let fine : IsDistribution (choice_among c.args.row.now c.args.choice) =
-    c.known.ensures.distributions c.args.choice c.requires.choice in
+    c.invariant.ensures.distributions c.args.choice c.requires.choice in
     omega (
       arith,
       c.requires.total,
@@ -41,10 +41,10 @@ middle_sums-requires-clause-small c =
 pub returns-then-total-le-MOST_NARROW : goal.returns-then-total-le-MOST_NARROW
 returns-then-total-le-MOST_NARROW c =
     rw (c.from.ensures, c.from-then-total-le-MOST_NARROW.ensures)
-    (AreSums-of-edges (c.known.ensures.distributions c.args.choice c.requires.choice) c.successors-successors.ensures
+    (AreSums-of-edges (c.invariant.ensures.distributions c.args.choice c.requires.choice) c.successors-successors.ensures
     c.narrow_weights-weights.ensures c.narrow_sums-lower.ensures)
 
 pub returns : goal.returns
 returns c =
-    AreSums-of-edges (c.known.ensures.distributions c.args.choice c.requires.choice) c.successors-successors.ensures
+    AreSums-of-edges (c.invariant.ensures.distributions c.args.choice c.requires.choice) c.successors-successors.ensures
     c.narrow_weights-weights.ensures c.middle_sums.ensures

@@ -9,7 +9,7 @@ overflow_add-lower c =
     c.edge_count-place-end.result c.loop-place.lower c.loop-place.upper c.edge-edge.result
     c.edge_count-place-end.ensures c.loop-place-test.true c.edge-edge.ensures c.requires.inside c.requires.units
     c.loop-place.invariant
-    (c.known.ensures.distributions c.args.choice c.requires.choice) in
+    (c.invariant.ensures.distributions c.args.choice c.requires.choice) in
     rw c.from.ensures (omega (arith, most.0))
 
 pub overflow_add-upper : goal.overflow_add-upper
@@ -18,7 +18,7 @@ overflow_add-upper c =
     c.edge_count-place-end.result c.loop-place.lower c.loop-place.upper c.edge-edge.result
     c.edge_count-place-end.ensures c.loop-place-test.true c.edge-edge.ensures c.requires.inside c.requires.units
     c.loop-place.invariant
-    (c.known.ensures.distributions c.args.choice c.requires.choice) in
+    (c.invariant.ensures.distributions c.args.choice c.requires.choice) in
     rw c.from-in-loop-place.ensures (omega (arith, most.1))
 
 pub loop-place-preserved : goal.loop-place-preserved

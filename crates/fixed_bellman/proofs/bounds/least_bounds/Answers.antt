@@ -7,14 +7,14 @@ use Rattle.fixed_bellman.proofs.bounds.least_bounds.Goals as goal
 
 pub returns-clause-lower : goal.returns-clause-lower
 returns-clause-lower c = least-found c.args.question.now c.args.state c.loop-choice.choice c.choices-choice-end.result
-    c.loop-choice.lower c.row-row.result (down_value (slice_index (lowers c.args.table.now))) c.known.ensures
+    c.loop-choice.lower c.row-row.result (down_value (slice_index (lowers c.args.table.now))) c.invariant.ensures
     c.requires.state c.row-row.ensures c.choices-choice-end.ensures c.loop-choice-test.false
     (λ m fine. down_value-most m (lowers c.args.table.now) fine (lowers-units c.args.table.now c.requires.units))
     c.loop-choice.invariant.lower
 
 pub returns-clause-upper : goal.returns-clause-upper
 returns-clause-upper c = least-found c.args.question.now c.args.state c.loop-choice.choice c.choices-choice-end.result
-    c.loop-choice.upper c.row-row.result (up_value (slice_index (uppers c.args.table.now))) c.known.ensures
+    c.loop-choice.upper c.row-row.result (up_value (slice_index (uppers c.args.table.now))) c.invariant.ensures
     c.requires.state c.row-row.ensures c.choices-choice-end.ensures c.loop-choice-test.false
     (λ m fine. up_value-units m (uppers c.args.table.now) fine (uppers-units c.args.table.now c.requires.units))
     c.loop-choice.invariant.upper

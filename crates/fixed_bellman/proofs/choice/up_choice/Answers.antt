@@ -12,7 +12,7 @@ returns c =
     let m = choice_of c.args.question.now.game c.args.state c.args.choice in
     let sum = weighted_sum (slice_index c.args.table.now) m.edges in
     let positive : 0 < m.total =
-    total-pos m (c.known.ensures.game.distribution c.args.state c.args.choice c.requires.state c.requires.choice) in
+    total-pos m (c.invariant.ensures.game.distribution c.args.state c.args.choice c.requires.state c.requires.choice) in
     let is : c.up.result ≡ up_value (slice_index c.args.table.now) m = c.up.ensures.value
     ∙ c.table_quotient.ensures.up ∙ ap (λ (ms : List Distribution). up_value (slice_index c.args.table.now)
     (choice_among ms c.args.choice)) c.row.ensures in record {

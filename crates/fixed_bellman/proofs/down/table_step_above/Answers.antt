@@ -15,6 +15,6 @@ returns-clause-exact c reached =
     let e : IsStepAbove q v v s floor value choice =
     subst (λ (t : List ℕ). IsStepAbove q (slice_index t) (slice_index t) s floor value choice) c.new-entries.ensures
     c.step_above.ensures.step in (
-      step-exact q v s floor value choice c.known.ensures c.requires.state c.requires.free e reached,
-      step-named q v s floor value choice c.known.ensures c.requires.state c.requires.free e reached,
+      step-exact q v s floor value choice c.invariant.ensures c.requires.state c.requires.free e reached,
+      step-named q v s floor value choice c.invariant.ensures c.requires.state c.requires.free e reached,
     )

@@ -11,7 +11,7 @@ pub returns : goal.returns
 returns c =
     let m : Distribution = choice_among c.args.row.now c.args.choice in
     let down : ℕ = down_value (slice_index c.args.table.now) m in
-    let positive : 0 < m.total = total-pos m (c.known.ensures.distributions c.args.choice c.requires.choice) in
+    let positive : 0 < m.total = total-pos m (c.invariant.ensures.distributions c.args.choice c.requires.choice) in
     elim (cases_lt down c.args.value) [
       | inl less ↦
           let below : IsTrue c.down_below.result =

@@ -14,7 +14,7 @@ returns c =
     let m : Distribution = choice_among c.args.row.now c.args.choice in
     let sum : ℕ = weighted_sum (slice_index c.args.table.now) m.edges in
     let up : ℕ = up_value (slice_index c.args.table.now) m in
-    let positive : 0 < m.total = total-pos m (c.known.ensures.distributions c.args.choice c.requires.choice) in
+    let positive : 0 < m.total = total-pos m (c.invariant.ensures.distributions c.args.choice c.requires.choice) in
     elim (cases_lt c.args.value up) [
       | inl less ↦
           let above : IsTrue c.up_above.result =

@@ -29,7 +29,7 @@ returns c =
     let f : Distribution → ℕ = down_value (slice_index c.args.table.now) in
     let next : ℕ = c.args.floor + 1 in
     let row : List Distribution = c.args.row.now in
-    let least : next ≤ optimum Min f row = optimum-least Min f next row c.known.ensures.some
+    let least : next ≤ optimum Min f row = optimum-least Min f next row c.invariant.ensures.some
     (recursion_from_All (λ m. next ≤ f m) row
     (All-from_get_or (λ m. next ≤ f m) row no_distribution (λ d l. let above = c.loop-choice.invariant d
     (omega (arith, c.choices-choice-end.ensures, c.loop-choice-test.false)) in omega (arith, above)))) in

@@ -5,14 +5,14 @@ use Rattle.fixed_bellman.proofs.sum.sum_of.Goals as goal
 
 pub narrow_sum-requires-clause-fits : goal.narrow_sum-requires-clause-fits
 narrow_sum-requires-clause-fits g c =
-    all-to (c.known.ensures.distributions c.args.choice c.requires.choice) c.successors-successors.ensures
+    all-to (c.invariant.ensures.distributions c.args.choice c.requires.choice) c.successors-successors.ensures
     c.narrow_weights-weights.ensures
     (g.V.Values.fits c.args.values.now c.args.pass.now) c.requires.fits
 
 pub narrow_sum-requires-clause-narrow : goal.narrow_sum-requires-clause-narrow
 narrow_sum-requires-clause-narrow g c =
     let fine : IsDistribution (choice_among c.args.row.now c.args.choice) =
-    c.known.ensures.distributions c.args.choice c.requires.choice in
+    c.invariant.ensures.distributions c.args.choice c.requires.choice in
     omega (
       arith,
       c.requires.total,
@@ -22,14 +22,14 @@ narrow_sum-requires-clause-narrow g c =
 
 pub middle_sum-requires-clause-fits : goal.middle_sum-requires-clause-fits
 middle_sum-requires-clause-fits g c =
-    all-to (c.known.ensures.distributions c.args.choice c.requires.choice) c.successors-successors.ensures
+    all-to (c.invariant.ensures.distributions c.args.choice c.requires.choice) c.successors-successors.ensures
     c.narrow_weights-weights.ensures
     (g.V.Values.fits c.args.values.now c.args.pass.now) c.requires.fits
 
 pub middle_sum-requires-clause-small : goal.middle_sum-requires-clause-small
 middle_sum-requires-clause-small g c =
     let fine : IsDistribution (choice_among c.args.row.now c.args.choice) =
-    c.known.ensures.distributions c.args.choice c.requires.choice in
+    c.invariant.ensures.distributions c.args.choice c.requires.choice in
     omega (
       arith,
       c.requires.total,
@@ -40,10 +40,10 @@ middle_sum-requires-clause-small g c =
 pub returns-then-total-le-MOST_NARROW-clause-sum : goal.returns-then-total-le-MOST_NARROW-clause-sum
 returns-then-total-le-MOST_NARROW-clause-sum g c =
     rw c.from.ensures
-    (sum-of-edges (c.known.ensures.distributions c.args.choice c.requires.choice) c.successors-successors.ensures
+    (sum-of-edges (c.invariant.ensures.distributions c.args.choice c.requires.choice) c.successors-successors.ensures
     c.narrow_weights-weights.ensures c.narrow_sum.ensures.sum)
 
 pub returns-clause-sum : goal.returns-clause-sum
 returns-clause-sum g c =
-    sum-of-edges (c.known.ensures.distributions c.args.choice c.requires.choice) c.successors-successors.ensures
+    sum-of-edges (c.invariant.ensures.distributions c.args.choice c.requires.choice) c.successors-successors.ensures
     c.narrow_weights-weights.ensures c.middle_sum.ensures.sum

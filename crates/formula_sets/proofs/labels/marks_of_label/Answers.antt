@@ -14,4 +14,4 @@ returns c =
     ∙ ap (λ (xs : List Bool). xs ++ c.marks.result.now) c.in_ok-marks.ensures.items ∙ read in
     padded named _ _ c.args.states _ held (omega
     (arith, c.in_ok-extend_from_slice.ensures.len, c.in_ok-marks.ensures.len, ap (λ (xs : List Bool). length xs) read))
-    (omega (arith, marks_within l c.args.name.now c.known.ensures, c.requires)) c.in_ok-resize.ensures.items
+    (omega (arith, marks_within l c.args.name.now c.invariant.ensures, c.requires)) c.in_ok-resize.ensures.items

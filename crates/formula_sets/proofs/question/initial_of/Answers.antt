@@ -7,4 +7,4 @@ pub returns-clause-inside : goal.returns-clause-inside
 returns-clause-inside c =
     let l = c.args.labels.now in
     let P : List ℕ → Type 0 = λ xs. All (λ s. s < l.states) xs in
-    subst P (sym c.in-Ok.ensures) (states_inside l init l.states c.known.ensures refl)
+    subst P (sym c.in-Ok.ensures) (states_inside l init l.states c.invariant.ensures refl)

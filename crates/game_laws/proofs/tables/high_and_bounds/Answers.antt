@@ -7,5 +7,5 @@ returns c = record {
   not_exceeded = λ a b s inside bound.
       IsHigh-not-exceeds c.args.question.now (slice_index c.args.table.now) a b s c.requires inside bound;
   not_reached = λ a b s inside bound. IsHigh-not-reaches c.args.question.now
-      (slice_index c.args.table.now) a b s c.known.ensures c.requires inside bound;
+      (slice_index c.args.table.now) a b s c.invariant.ensures c.requires inside bound;
 }

@@ -5,4 +5,4 @@ use Rattle.game_laws.proofs.tables.inductive_is_high.Goals as goal
 
 pub returns : goal.returns
 returns c = IsHigh-up_step c.args.question.now (slice_index c.args.table.now)
-    (AreChoicesOf-choices_of _ c.known.ensures.game) c.requires
+    (AreChoicesOf-choices_of _ c.invariant.ensures.game) c.requires

@@ -5,4 +5,4 @@ use Rattle.game_laws.proofs.tables.settled_is_above_down_steps.Goals as goal
 
 pub returns : goal.returns
 returns c = down_steps-settled c.args.question.now (slice_index c.args.table.now)
-    (AreChoicesOf-choices_of _ c.known.ensures.game) c.requires.opens c.requires.settled
+    (AreChoicesOf-choices_of _ c.invariant.ensures.game) c.requires.opens c.requires.settled

@@ -18,7 +18,7 @@ returns c =
     let needs : NeedsReply q c.args.state = c.if-not-needs_reply.ensures.0 refl in
     let some : ¬ NoneHeld q v c.args.state = λ none. omega (
       arith,
-      none-held q v c.args.state c.known.ensures c.requires.state needs.free none,
+      none-held q v c.args.state c.invariant.ensures c.requires.state needs.free none,
       c.requires.inductive c.args.state c.requires.state,
     ) in
     record {

@@ -9,7 +9,7 @@ returns-in-Some-clause-ok c = (
   λ most. absurd (omega (
     arith,
     most,
-    one-unheld c.args.question.now (slice_index c.args.upper.now) c.args.state c.known.ensures c.requires.state
+    one-unheld c.args.question.now (slice_index c.args.upper.now) c.args.state c.invariant.ensures c.requires.state
         (sym c.if-is_goal.ensures, sym c.if-is_dead.ensures)
         (sym c.in-Max.ensures) c.in-Some.choice c.in-Some.ensures.inside c.in-Some.ensures.unheld,
   )),
@@ -17,14 +17,14 @@ returns-in-Some-clause-ok c = (
 
 pub returns-in-None-clause-ok : goal.returns-in-None-clause-ok
 returns-in-None-clause-ok c = (
-  λ ok. all-held c.args.question.now (slice_index c.args.upper.now) c.args.state c.known.ensures c.requires.state
+  λ ok. all-held c.args.question.now (slice_index c.args.upper.now) c.args.state c.invariant.ensures c.requires.state
       (sym c.if-is_goal.ensures, sym c.if-is_dead.ensures) c.in-None.ensures,
   λ most. refl,
 )
 
 pub returns-in-Some-first_held-clause-ok : goal.returns-in-Some-first_held-clause-ok
 returns-in-Some-first_held-clause-ok c = (
-  λ ok. one-held c.args.question.now (slice_index c.args.upper.now) c.args.state c.known.ensures c.requires.state
+  λ ok. one-held c.args.question.now (slice_index c.args.upper.now) c.args.state c.invariant.ensures c.requires.state
       (sym c.if-is_goal.ensures, sym c.if-is_dead.ensures) (sym c.in-Min.ensures) c.in-Some-first_held.field-0
       c.in-Some-first_held.ensures.inside c.in-Some-first_held.ensures.held,
   λ most. refl,
@@ -36,7 +36,7 @@ returns-in-None-first_held-clause-ok c = (
   λ most. absurd (omega (
     arith,
     most,
-    none-held c.args.question.now (slice_index c.args.upper.now) c.args.state c.known.ensures c.requires.state
+    none-held c.args.question.now (slice_index c.args.upper.now) c.args.state c.invariant.ensures c.requires.state
         (sym c.if-is_goal.ensures, sym c.if-is_dead.ensures) c.in-None-first_held.ensures,
   )),
 )

@@ -15,14 +15,14 @@ returns-in-Some-clause-above c s inside =
     let base = c.args.base.now in
     let some = c.requires.rankable in
     let none : (t : ℕ) → t < states q → slice_index_or zero t false ≡ true → slice_index base t ≡ 0 =
-    near-zero q zero (slice_index base) c.known.ensures c.requires.zero
-    (Ranked-near q base c.args.choices.now some.0 c.known.ensures some.1) in
+    near-zero q zero (slice_index base) c.invariant.ensures c.requires.zero
+    (Ranked-near q base c.args.choices.now some.0 c.invariant.ensures some.1) in
     let found : IsFirstAt q zero (slice_index base) c.excess_at.result c.in-Some.found.values.items =
     rw c.in-Some.is at c.in_ok-found.ensures.found in
     omega (
       arith,
       found.entries.each s inside,
-      raised-above q zero base c.args.choices.now some.0 c.excess_at.result c.known.ensures some.1 none
+      raised-above q zero base c.args.choices.now some.0 c.excess_at.result c.invariant.ensures some.1 none
           found.steps s inside,
     )
 

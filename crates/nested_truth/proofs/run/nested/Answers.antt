@@ -12,7 +12,7 @@ answer-requires-clause-initial g c κs within =
     let begun = initial-found l c.args.owners.now
     (tree_of c.args.formula.now) c.in_ok-initial.initial.items c.in_ok-initial.ensures.said in
     subst (λ (xs : List ℕ). All (λ s. s < length c.args.game.now) xs) (sym begun.starts)
-    (states_inside l init (length c.args.game.now) c.known.ensures c.requires.labels)
+    (states_inside l init (length c.args.game.now) c.invariant.ensures c.requires.labels)
 
 pub returns-in-Ok-clause-inside : goal.returns-in-Ok-clause-inside
 returns-in-Ok-clause-inside g c =
@@ -20,4 +20,4 @@ returns-in-Ok-clause-inside g c =
     let begun = initial-found l c.args.owners.now
     (tree_of c.args.formula.now) c.in_ok-initial.initial.items c.in_ok-initial.ensures.said in
     subst (λ (xs : List ℕ). All (λ s. s < length c.args.game.now) xs) (sym (c.in-Ok.ensures.initial ∙ begun.starts))
-    (states_inside l init (length c.args.game.now) c.known.ensures c.requires.labels)
+    (states_inside l init (length c.args.game.now) c.invariant.ensures c.requires.labels)

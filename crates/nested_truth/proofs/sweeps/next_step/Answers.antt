@@ -23,7 +23,7 @@ returns-clause-sweep g c =
     let marked = λ (s : ℕ). get_or c.args.marks.now s false in
     let q = c.args.question.now in
     IfOk-weaker c.bounded.result _ _ (λ sweep swept. IsSweep-same q (slice_index c.deref.result.now)
-    (units_at marked) 1 sweep.lower.items sweep.upper.items c.known.ensures
+    (units_at marked) 1 sweep.lower.items sweep.upper.items c.invariant.ensures
     (λ s inside. ap (λ (xs : List ℕ). slice_index xs s) c.deref.ensures.value
     ∙ filled-at (units_at marked) (length c.args.marks.now) c.in_ok-table.table.items c.in_ok-table.ensures 0 s
     (omega (arith, inside, c.requires.marks))) swept) c.bounded.ensures.sweep

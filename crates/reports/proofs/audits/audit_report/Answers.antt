@@ -27,8 +27,8 @@ returns-clause-audited c =
     verdict-answered c.mirrored_verdicts_are_those_of_the_dual.ensures f c.requires.share (slice_index lower s)
     (slice_index upper s) units.0 units.1 in
     audited (λ answer. answer.text.items)
-    (λ answer. answer.status) q c.known.ensures initial f plan c.requires.inside sound
-    (lines-in_range q c.known.ensures f plan c.requires.lists c.requires.passes initial c.requires.inside)
+    (λ answer. answer.status) q c.invariant.ensures initial f plan c.requires.inside sound
+    (lines-in_range q c.invariant.ensures f plan c.requires.lists c.requires.passes initial c.requires.inside)
     (All-weaker (λ s. s < states q) (λ s.
     (plan_line f Audited plan s).verdict ≡ Undecided → LeavesOpen bound (slice_index lower s) (slice_index upper s) 1 0)
     (λ s within is. c.undecided_thresholds_are_left_open.ensures.here bound (slice_index lower s) (slice_index upper s)

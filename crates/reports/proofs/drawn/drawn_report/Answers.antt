@@ -16,7 +16,7 @@ returns-clause-made g c =
 pub write_summary-requires : goal.write_summary-requires
 write_summary-requires g c =
     let found = c.in_ok-found.ensures.found in
-    let few = c.known-2.ensures.game.few in
+    let few = c.invariant-2.ensures.game.few in
     let plan = c.in_ok-found.found.bracket.plan in
     record {
       fits = (

@@ -14,7 +14,7 @@ returns-clause-report g c =
     answered-nested (record { game = loaded.game; labels = loaded.labels; owners = loaded.owners })
     (tree_of loaded.formula) c.args.way found
     (record {
-      game = c.known.ensures;
+      game = c.invariant.ensures;
       count = k.how;
       inner = k.inner;
       undecided = k.undecided;

@@ -37,20 +37,20 @@ returns-clause-report g c =
     let units = plan-units q plan lists passes s within in
     verdict-answered c.mirrored_verdicts_are_those_of_the_dual.ensures f c.requires.share (slice_index lower s)
     (slice_index upper s) units.0 units.1 in
-    let left_open = all-left_open q zero bound initial asked found plan c.known.ensures
+    let left_open = all-left_open q zero bound initial asked found plan c.invariant.ensures
     (shown-above q zero bound initial asked check.traps found plan is_found shown) shown.below is_found.bounds
     c.requires.inside in
     reported (λ answer. answer.text.items) (λ answer. answer.status) q initial f check zero found plan (record {
-      posed = c.known.ensures;
+      posed = c.invariant.ensures;
       inside = c.requires.inside;
       is_zero = c.in_ok-bracketed.ensures.zero;
       is_found = is_found;
       shown = shown;
       lists = lists;
-      sound = sound q plan c.known.ensures passes;
+      sound = sound q plan c.invariant.ensures passes;
       passes = passes;
       limits = printed-in_limits q plan initial (Rounds found.rounds) (shown-printable q zero bound initial
-          asked check.traps found plan is_found shown c.known.ensures lists passes c.make_answer.ensures.ranks)
+          asked check.traps found plan is_found shown c.invariant.ensures lists passes c.make_answer.ensures.ranks)
           (omega (arith, is_found.bounds.near.few, c.requires.in_range.few_rounds)) c.requires.inside check.plan f;
       left_open = λ i d there undecided. left_open i d there (sym (agree _ (c.requires.inside i d there)) ∙ undecided);
     }) c.make_answer.result (rw c.deref-initial.ensures.value at c.make_answer.ensures.text)

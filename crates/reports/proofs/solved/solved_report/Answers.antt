@@ -26,7 +26,7 @@ returns-clause-report g c =
     let units = plan-units q plan is_plan.lists is_plan.passes s within in
     verdict-answered c.mirrored_verdicts_are_those_of_the_dual.ensures f c.requires.share (slice_index lower s)
     (slice_index upper s) units.0 units.1 in
-    solved q c.known.ensures plan is_plan c.make_answer.ensures.ranks (λ answer. answer.text.items)
+    solved q c.invariant.ensures plan is_plan c.make_answer.ensures.ranks (λ answer. answer.text.items)
     (λ answer. answer.status) initial f c.args.asked c.requires.inside
     (All-weaker (λ s. s < states q) (λ s.
     (plan_line f Solved plan s).verdict ≡ Undecided → LeavesOpen bound (slice_index lower s) (slice_index upper s) 1 0)

@@ -14,6 +14,6 @@ returns-clause-report g c =
       report = report (slice_index table) (next_numerator q (opens table))
           (rw (c.deref.ensures.value) at c.in_ok-sweep.ensures.sweep)
           (c.one_step_is_the_next_value.ensures q (slice_index table)
-          (opens table) c.known.ensures c.requires.opening.next);
-      best = next-best q (opens table) c.known.ensures;
+          (opens table) c.invariant.ensures c.requires.opening.next);
+      best = next-best q (opens table) c.invariant.ensures;
     }) (rw (c.deref-2.ensures.value) at c.sweep_report.ensures.report)

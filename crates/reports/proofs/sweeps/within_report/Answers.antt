@@ -11,5 +11,5 @@ returns-clause-report g c =
     (λ answer report. record {
       report = report (opening q) (numerator q c.args.steps) c.in_ok-sweep.ensures.sweep
           (λ s inside. c.exact_values_are_k_step_values.ensures q c.args.steps s);
-      best = best q c.args.steps c.known.ensures;
+      best = best q c.args.steps c.invariant.ensures;
     }) (rw (c.deref.ensures.value) at c.sweep_report.ensures.report)

@@ -10,7 +10,7 @@ loop-low-preserved-then-worker_of-worker c =
       order = omega arith;
       within = h.within;
       before = λ s l.
-          let less = worker_of-rises c.args.game.now c.args.workers s middle c.known.ensures (omega arith) in
+          let less = worker_of-rises c.args.game.now c.args.workers s middle c.invariant.ensures (omega arith) in
           omega (arith, less);
       behind = h.behind;
     }
@@ -25,6 +25,6 @@ loop-low-preserved c =
       within = omega arith;
       before = h.before;
       behind = λ s l _.
-          let more = worker_of-rises c.args.game.now c.args.workers middle s c.known.ensures (omega arith) in
+          let more = worker_of-rises c.args.game.now c.args.workers middle s c.invariant.ensures (omega arith) in
           omega (arith, more);
     }

@@ -18,6 +18,6 @@ returns-clause-values c =
       c.in_ok-weakest.ensures,
       λ inductive.
           let passed : IsOk c.check_upper.result = c.check_upper.ensures.ok.1
-          (tested.units, table-inductive q entries c.deref.result.now c.known.ensures tested inductive) in
+          (tested.units, table-inductive q entries c.deref.result.now c.invariant.ensures tested inductive) in
           search rules,
     )

@@ -36,14 +36,14 @@ returns-clause-plan c =
         replies = held.first.as_many;
       };
       passes = passes;
-      sound = sound q plan c.known.ensures passes;
+      sound = sound q plan c.invariant.ensures passes;
       sure = record {
-        lower = lower-exactly q c.known.ensures sure zero c.requires.sure c.requires.zero _ _ reached.values;
-        upper = upper-unit q c.known.ensures sure zero c.requires.sure c.requires.zero _ _ held.values;
+        lower = lower-exactly q c.invariant.ensures sure zero c.requires.sure c.requires.zero _ _ reached.values;
+        upper = upper-unit q c.invariant.ensures sure zero c.requires.sure c.requires.zero _ _ held.values;
       };
       zero = record {
         upper = upper-exactly q sure zero c.requires.zero _ _ held.values;
-        lower = lower-never q c.known.ensures sure zero c.requires.sure c.requires.zero _ _ reached.values;
+        lower = lower-never q c.invariant.ensures sure zero c.requires.sure c.requires.zero _ _ reached.values;
       };
       choices = reached.layered;
       replies = held.first;

@@ -7,6 +7,6 @@ loop-state-preserved c =
     let q = c.args.question.now in
     let s = c.loop-state.state in
     let inside : s < length q.goals = omega
-    (arith, c.loop-state-test.true, c.states-state-end.ensures, ap length c.game.ensures, c.known.ensures.goals) in
+    (arith, c.loop-state-test.true, c.states-state-end.ensures, ap length c.game.ensures, c.invariant.ensures.goals) in
     c.in-Ok.ensures.items ∙ opening_words-more q c.loop-state.words.items s c.opening_word.result c.loop-state.invariant
     inside c.opening_word.ensures

@@ -17,8 +17,8 @@ returns-in-Ok-clause-ends g c = λ words holding taken refused.
     (λ so. subst (λ (t : List ℕ). GrowsBy old new t) is (c.say.ensures.all so))
     (λ so. subst (λ (t : List ℕ). GrowsByPrefix old new t) is (c.say.ensures.fault so).1)
     (λ grows. subst (λ (s : Status). IsEnding words holding taken old new s) (sym c.refused_status.ensures)
-    (refusal_ends old new refusal refused c.known.ensures grows))
+    (refusal_ends old new refusal refused c.invariant.ensures grows))
     (inr (inl (
       refused_status refusal,
-      record { refusal = refusal; refused = refused; in_full = c.known.ensures; line = refl; ends = refl },
+      record { refusal = refusal; refused = refused; in_full = c.invariant.ensures; line = refl; ends = refl },
     )))

@@ -11,7 +11,7 @@ bounds-of-to c =
     omega (
       arith,
       c.requires.many,
-      leads-inside q c.args.state c.args.choice _ c.known.ensures c.requires.state c.requires.choice leads,
+      leads-inside q c.args.state c.args.choice _ c.invariant.ensures c.requires.state c.requires.choice leads,
     )
 
 pub returns-then-of-to-clause-no : goal.returns-then-of-to-clause-no

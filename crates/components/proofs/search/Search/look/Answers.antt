@@ -11,7 +11,7 @@ follow-requires-clause-inside g c =
     ∙ ap (λ game. destinations (choice_of game c.args.state c.args.seen.choice).edges) c.game.ensures in
     let state : c.args.state < length c.args.question.now.game = omega (arith, c.requires.state, c.requires.one) in
     λ k less.
-    omega (arith, successor-inside _ _ _ k _ to c.known.ensures.game state c.requires.choice less, c.requires.one)
+    omega (arith, successor-inside _ _ _ k _ to c.invariant.ensures.game state c.requires.choice less, c.requires.one)
 
 pub enter-requires : goal.enter-requires
 enter-requires g c =
@@ -22,7 +22,7 @@ enter-requires g c =
     let state : c.args.state < length c.args.question.now.game = omega (arith, c.requires.state, c.requires.one) in
     omega (
       arith,
-      successor-inside _ _ _ c.in-Some.place _ to c.known.ensures.game state c.requires.choice c.in-Some.ensures.place,
+      successor-inside _ _ _ c.in-Some.place _ to c.invariant.ensures.game state c.requires.choice c.in-Some.ensures.place,
       c.requires.one,
       c.follow.ensures.same,
     )

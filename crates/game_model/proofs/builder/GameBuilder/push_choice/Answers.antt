@@ -9,7 +9,7 @@ pub push_edges-requires : goal.push_edges-requires
 push_edges-requires c =
     let P : ℕ → Type 0 = λ n. IsDistribution (record { total = n; edges = c.args.choice.now.edges }) in
     let Q : List Edge → Type 0 = λ es. IsDistribution (record { total = c.total.result; edges = es }) in
-    subst Q (sym c.edges.ensures) (subst P (sym c.total.ensures) c.known.ensures)
+    subst Q (sym c.edges.ensures) (subst P (sym c.total.ensures) c.invariant.ensures)
 
 pub returns-clause-ok : goal.returns-clause-ok
 returns-clause-ok c = if_ok-more c.push_edges.result _ _ c.push_edges.ensures.ok

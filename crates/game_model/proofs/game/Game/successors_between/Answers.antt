@@ -102,4 +102,4 @@ returns-clause-list c =
 pub returns-clause-states : goal.returns-clause-states
 returns-clause-states c =
     subst (All (λ t. t < length c.args.self.now)) (sym (returns-clause-list c))
-    (successors_between-states c.args.self.now c.args.from c.args.to c.known.ensures)
+    (successors_between-states c.args.self.now c.args.from c.args.to c.invariant.ensures)

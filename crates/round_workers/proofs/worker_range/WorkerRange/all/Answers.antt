@@ -7,5 +7,5 @@ pub returns-clause-crew : goal.returns-clause-crew
 returns-clause-crew c = record {
   begins = first-begins c.args.game.now c.args.workers;
   ends = subst (λ (n : ℕ). BeginsBlock c.args.game.now c.args.workers c.args.workers n) (sym c.states.ensures)
-      (last-ends c.args.game.now c.args.workers c.known.ensures c.requires.0);
+      (last-ends c.args.game.now c.args.workers c.invariant.ensures c.requires.0);
 }

@@ -9,4 +9,4 @@ returns-in-Won-clause-lawful c = rw c.in-Won.is (answer-lawful c.args.self.now
 pub returns-in-Won-clause-unlawful : goal.returns-in-Won-clause-unlawful
 returns-in-Won-clause-unlawful c =
     rw c.in-Won.is (answer-unlawful c.args.self.now (Won c.in-Won.view c.in-Won.state c.in-Won.from c.in-Won.to)
-    c.win.result c.known.ensures.question c.win.ensures.answer)
+    c.win.result c.invariant.ensures.question c.win.ensures.answer)

@@ -12,7 +12,7 @@ use Rattle.value_words.proofs.table.ValueTable+P.start.Goals as goal
 pub of_words-requires : goal.of_words-requires
 of_words-requires g c =
     let q = g.P.Posing.posed in
-    let h : IsQuery q = subst IsQuery c.requires c.known.ensures in
+    let h : IsQuery q = subst IsQuery c.requires c.invariant.ensures in
     let same : opening_words q ≡ c.as_slice.result.now =
     ap opening_words (sym c.requires) ∙ sym c.in_ok-words.ensures ∙ sym c.as_slice.ensures.value in
     subst (λ words. MeetsRule q (opening words [] (opening_sight q))) same (opening-meets q [] h)
@@ -39,6 +39,6 @@ opened q m h is =
 pub invariant_of-result-in-Ok : goal.invariant_of-result-in-Ok
 invariant_of-result-in-Ok g c =
     let q = g.P.Posing.posed in
-    let h : IsQuery q = subst IsQuery c.requires c.known.ensures in
+    let h : IsQuery q = subst IsQuery c.requires c.invariant.ensures in
     let me : c.in-Ok.seat.me ≡ (opening_sight q, []) = search rules in
     opened q c.in-Ok.seat.me h me

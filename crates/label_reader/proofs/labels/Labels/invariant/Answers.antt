@@ -1,7 +1,7 @@
 use Rattle.std.proofs.Common.{subst}
 use Rattle.label_lines.specs.Labels.{Labelling, IsLabelling}
 use Rattle.label_lines.proofs.NamedMarks.{All-labels_named}
-use Rattle.label_reader.proofs.labels.Labels.known.Goals as goal
+use Rattle.label_reader.proofs.labels.Labels.invariant.Goals as goal
 
 pub returns : goal.returns
 returns c =

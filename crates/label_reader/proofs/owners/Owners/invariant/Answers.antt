@@ -4,7 +4,7 @@ use Rattle.std.proofs.lemmas.List.Elements.{All-map}
 use Rattle.std.specs.Option.{unwrap_or}
 use Rattle.label_lines.specs.Owners.{Ownership, IsOwnership}
 use Rattle.label_lines.specs.Named.{places_of}
-use Rattle.label_reader.proofs.owners.Owners.known.Goals as goal
+use Rattle.label_reader.proofs.owners.Owners.invariant.Goals as goal
 
 pub returns : goal.returns
 returns c =
