@@ -8,7 +8,7 @@ ghost use Rattle.game_outside.specs.Files.{LeavesShelf, ReadsFile};
 use crate::line_text::LineText;
 use crate::shelf::{ReadEnd, Shelf};
 use std::alloc::Global;
-use text_lines::{Feed, LineReader};
+use text_lines::{LineFeeder, LineReader};
 
 /// This says why a file gives nothing.
 #[derive(Clone, Copy, Debug, PartialEq, Eq, Drop)]
@@ -61,14 +61,14 @@ where
 {
     let mut text = LineText::begin(alloc, shelf, name, limit)?;
     let mut line = Vec::new(alloc);
-    let mut feed = Feed::new(reader);
+    let mut feeder = LineFeeder::new(reader);
     while text.next_line(shelf, &mut line)? {
-        if let Err(fault) = text.pass_on(&line, &mut feed) {
+        if let Err(fault) = text.push_line(&line, &mut feeder) {
             text.finish(shelf)?;
             return Err(FileEnd::Refused(fault));
         }
     }
-    match feed.end() {
+    match feeder.end() {
         Ok(made) => Ok(made),
         Err(fault) => Err(FileEnd::Refused(fault)),
     }

@@ -16,7 +16,7 @@ use memchr::memchr;
 use std::alloc::{AllocError, Global};
 use std::marker::Model;
 use text_lines::laws::lines_end_in_lf_or_crlf;
-use text_lines::{Feed, LineReader, without_cr};
+use text_lines::{LineFeeder, LineReader, without_cr};
 
 /// This text is being read by lines. It holds at most one piece of the text, and keeps no reference to the shelf, which
 /// each call takes. After a refusal it is closed.
@@ -141,12 +141,12 @@ impl LineText {
 
 impl LineText {
     // Passes on a line, and after it each line that lies whole in what is held, with no copy.
-    pub(crate) fn pass_on<R: LineReader>(
+    pub(crate) fn push_line<R: LineReader>(
         &mut self,
         line: &[u8],
-        feed: &mut Feed<R>,
+        feeder: &mut LineFeeder<R>,
     ) -> Result<(), R::Fault>
-        requires { feed.old.next + feed.old.blanks + length self.old.held + 1 < 2 ^ 32 }
+        requires { feeder.old.next + feeder.old.blanks + length self.old.held + 1 < 2 ^ 32 }
         ensures same { self.new ≡ record self.old { held = self.new.held } }
         ensures fewer { length self.new.held ≤ length self.old.held }
         ensures none { OnOk result (HasNo 10 self.new.held) }
@@ -154,17 +154,17 @@ impl LineText {
         // Whatever follows the bytes that are held, an answer that is right for the lines still to come was right
         // before.
         ensures ok { OnOk result ((behind : List ℕ) (answer : Result R.Made R.Fault) →
-            IsRightFor R.answers feed.new.reader feed.new.next feed.new.blanks
+            IsRightFor R.answers feeder.new.reader feeder.new.next feeder.new.blanks
             (lines_of (self.new.held ++ behind)) answer →
-            IsRightFor R.answers feed.old.reader feed.old.next feed.old.blanks
+            IsRightFor R.answers feeder.old.reader feeder.old.next feeder.old.blanks
             (line.now ∷ lines_of (self.old.held ++ behind)) answer) }
         ensures fault { IfErr result (λ fault. (behind : List ℕ) →
-            IsRightFor R.answers feed.old.reader feed.old.next feed.old.blanks
+            IsRightFor R.answers feeder.old.reader feeder.old.next feeder.old.blanks
             (line.now ∷ lines_of (self.old.held ++ behind)) (Err fault)) }
-        ensures lines { OnOk result (feed.new.next + feed.new.blanks + length self.new.held
-            ≤ feed.old.next + feed.old.blanks + 1 + length self.old.held) }
+        ensures lines { OnOk result (feeder.new.next + feeder.new.blanks + length self.new.held
+            ≤ feeder.old.next + feeder.old.blanks + 1 + length self.old.held) }
     {
-        let rest = feed_lines(line, &self.piece[self.begin..self.end], feed)?;
+        let rest = feed_lines(line, &self.piece[self.begin..self.end], feeder)?;
         self.begin = self.end - rest.len();
         Ok(())
     }

@@ -3,7 +3,7 @@
 //!
 //! A reader of a format is a [`LineReader`]: it takes the lines that are not blank, one after another, or answers the
 //! first fault, and at the end it makes its value. [`read_lines`] feeds it the lines of a text that is held, and
-//! [`Feed`] feeds it lines from any source. Its answer about a text does not depend on how the lines come.
+//! [`LineFeeder`] feeds it lines from any source. Its answer about a text does not depend on how the lines come.
 //!
 //! Within a line, `first_field` cuts the first field off, and `whole` reads a field that must be a number;
 //! `first_number` does both in one pass:
@@ -38,7 +38,7 @@ pub use front::first_number;
 pub use lines::{ended_line, first_line, only_blank, without_cr};
 pub use numbers::whole;
 pub use parts::split_at_first;
-pub use reader::{Feed, LineReader, read_lines};
+pub use reader::{LineFeeder, LineReader, read_lines};
 
 /// A text that is read has at most this many bytes.
 pub const MOST_BYTES: usize = 268_435_456;

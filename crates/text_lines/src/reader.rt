@@ -43,20 +43,20 @@ pub trait LineReader: Drop {
 /// A feed passes the lines of a text on to a reader. Blank lines wait until another line follows, since those at the
 /// end of a text don't count.
 #[derive(Drop)]
-pub struct Feed<R: LineReader> {
+pub struct LineFeeder<R: LineReader> {
     reader: R,
     next: u32,
     blanks: u32,
 }
 
-impl<R: LineReader> Feed<R> {
+impl<R: LineReader> LineFeeder<R> {
     /// Returns the feed of a reader that has taken nothing yet.
-    pub fn new(reader: R) -> Feed<R>
+    pub fn new(reader: R) -> LineFeeder<R>
         ensures reader { result.reader ≡ reader }
         ensures next { result.next ≡ 1 }
         ensures blanks { result.blanks ≡ 0 }
     {
-        Feed {
+        LineFeeder {
             reader,
             next: 1,
             blanks: 0,
@@ -98,11 +98,11 @@ pub fn read_lines<R: LineReader>(text: &[u8], reader: R) -> Result<R::Made, R::F
     requires { length text.now + 2 < 2 ^ 32 }
     ensures { R.answers reader 1 (significant (lines_of text.now)) result }
 {
-    let mut feed = Feed::new(reader);
+    let mut feeder = LineFeeder::new(reader);
     let mut rest = text;
     while let Some((line, after)) = first_line(rest) {
-        feed.line(line)?;
+        feeder.line(line)?;
         rest = after;
     }
-    feed.end()
+    feeder.end()
 }

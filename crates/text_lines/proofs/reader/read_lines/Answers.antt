@@ -6,8 +6,8 @@ pub loop-line-init : goal.loop-line-init
 loop-line-init g c = record {
   goes_on = λ answer behind.
       let counted = significant (lines_of c.args.text.now) in
-      subst (λ reader. g.R.LineReader.answers reader 1 counted answer) c.new-feed.ensures.reader
-      (subst (λ number. g.R.LineReader.answers c.new-feed.result.reader number counted answer) c.new-feed.ensures.next
-      (behind [] tt (sym c.new-feed.ensures.blanks)));
+      subst (λ reader. g.R.LineReader.answers reader 1 counted answer) c.new-feeder.ensures.reader
+      (subst (λ number. g.R.LineReader.answers c.new-feeder.result.reader number counted answer) c.new-feeder.ensures.next
+      (behind [] tt (sym c.new-feeder.ensures.blanks)));
   count = search rules;
 }

@@ -1,7 +1,7 @@
 use Rattle.std.proofs.Common.{Err, rules}
 use Rattle.text_lines.proofs.Fronts.{nil_is}
 use Rattle.text_lines.proofs.BlankLines.{blank_waits, blank_refused}
-use Rattle.text_lines.proofs.reader.Feed.line.Goals as goal
+use Rattle.text_lines.proofs.reader.LineFeeder.line.Goals as goal
 
 pub returns-then-is_blank_line-clause-ok : goal.returns-then-is_blank_line-clause-ok
 returns-then-is_blank_line-clause-ok g c lines answer behind =
