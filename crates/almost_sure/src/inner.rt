@@ -12,7 +12,7 @@ use game_outside::OutOfMemory;
 use predecessors::{ChoiceFlags, Predecessors};
 use std::alloc::Global;
 
-/// This bars the states that are gone, and the choices that lead to one.
+/// This excludes the states that are gone, and the choices that lead to one.
 #[derive(Drop)]
 struct ExcludedGone<'a> {
     gone: &'a [bool],

@@ -6,7 +6,7 @@ use Rattle.game_model.specs.declared.game.Side.TheVariants.{Max, Min}
 use Rattle.game_model.specs.Game.{Distribution, choices_of}
 use Rattle.game_model.specs.Query.{Query, states, is_goal, is_dead, side_at}
 
--- ExcludedSets states may not join, and excluded choices attract no state. Both stay in the game, so a excluded choice of the
+-- Excluded states may not join, and excluded choices attract no state. Both stay in the game, so an excluded choice of the
 -- minimiser is a way out for it.
 pub record ExcludedSets : Type 0 where
   pub states : ℕ → Bool

@@ -7,12 +7,12 @@ ghost use Rattle.attractors.specs.Attractor.{ExcludedSets, dead_excluded};
 
 use game_model::Question;
 
-/// A type with this trait bars states and choices of a question.
+/// A type with this trait excludes states and choices of a question.
 pub trait Excluded {
     /// It can be used for this question.
     ghost fits: { Self → Query → Type 0 };
 
-    /// It bars these states and choices.
+    /// It excludes these states and choices.
     ghost excluded: { Self → Query → ExcludedSets };
 
     /// Returns whether a state is excluded.
@@ -29,7 +29,7 @@ pub trait Excluded {
         ensures { result ≡ (excluded self.now question.now).choices (choice_of question.now.game state choice) };
 }
 
-/// This bars the dead states, and no choice.
+/// This excludes the dead states, and no choice.
 #[derive(Drop)]
 pub struct ExcludedDead {}
 

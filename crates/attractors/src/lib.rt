@@ -2,7 +2,7 @@
 //! Grädel, Thomas and Wilke, Automata, Logics, and Infinite Games, 2002, chapter 2; here chance is on the maximiser's
 //! side).
 //!
-//! [`attractor_of`] gives them. [`Excluded`] is what bars states and choices; [`ExcludedDead`] bars the dead states and nothing
+//! [`attractor_of`] gives them. [`Excluded`] says which states and choices are excluded; [`ExcludedDead`] excludes the dead states and nothing
 //! else. [`meets`] says whether a choice leads into a set. [`first_unserved`] gives the first choice of a state that is
 //! excluded or does not lead into it, and [`complement`] gives the states that are not in it.
 //!

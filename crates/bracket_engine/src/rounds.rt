@@ -11,7 +11,7 @@ use std::thread::Threads;
 /// These things stay the same from one round to the next.
 #[derive(Drop)]
 pub struct Rounds<'a, R: Threads + Sync, F: Fn(u64, u64) -> bool, G: Gate + Sync> {
-    /// The team fills the tables of a guess.
+    /// The parallel sweep fills the tables of a guess.
     pub parallel: &'a ParallelSweep<'a, R>,
     /// This is the question, with what may end its run.
     pub ending: &'a Ending<'a, F>,

@@ -19,7 +19,7 @@ use std::alloc::Global;
 use std::thread::{Threads, join};
 use value_words::Words;
 
-/// Makes both sides over a base, which has the values of these words. If the team has several workers, one of them
+/// Makes both sides over a base, which has the values of these words. If the parallel sweep has several workers, one of them
 /// makes the lower side while the others make the upper side. One worker makes the two sides in turn, and needs no
 /// thread.
 pub fn both_sides<R: Threads + Sync>(
@@ -133,7 +133,7 @@ struct UpperJob<'a, R: Threads + Sync> {
 impl<R: Threads + Sync> Job for UpperJob<'_, R> {
     type Made = Result<UpperSide, OutOfMemory>;
 
-    // The team shares what starts threads.
+    // The parallel sweep shares what starts threads.
     ghost can_run = { λ j. IsSync R.row × IsZeroSet j.base.now.question.now j.base.now.zero.now
         × AreUpperParts j.base.now.question.now j.base.now.zero.now j.swapped_values.items j.kept };
 

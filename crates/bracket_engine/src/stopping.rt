@@ -49,7 +49,7 @@ impl<F: Fn(u64, u64) -> bool> Ending<'_, F> {
     /// After 1, 2, 4, 8 and so on rounds, returns the guess over the lower bounds if the guess and the swapped values
     /// settle the threshold at each initial state. It returns one after such a round if the lower bounds and the
     /// swapped values settle the threshold without it. If the bound asks for a value, it makes no guess, since no rule
-    /// could use it. The team fills the tables of the guess.
+    /// could use it. The parallel sweep fills the tables of the guess.
     pub fn asked_after<R: Threads + Sync>(
         &self,
         parallel: &ParallelSweep<'_, R>,

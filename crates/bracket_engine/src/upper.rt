@@ -24,7 +24,7 @@ pub struct UpperSide {
     pub replies: Vec<Option<u32>>,
 }
 
-/// Makes the upper table, whose guess is over the base, and the replies to it. The team fills the tables of the guess.
+/// Makes the upper table, whose guess is over the base, and the replies to it. The parallel sweep fills the tables of the guess.
 /// The swapped values are dropped after they are read.
 pub fn upper_side<R: Threads + Sync>(
     parallel: &ParallelSweep<'_, R>,

@@ -1,4 +1,4 @@
--- An agenda says between two rounds which states may rise.
+-- A dirty set says between two rounds which states may rise.
 use Rattle.std.specs.Prelude.{◌≡◌, ◌≢◌, ℕ, ◌<◌, ◌≤◌, Bool, true, false, List, length, All, slice_index, slice_index_or}
 use Rattle.game_model.specs.Game.{Distribution}
 use Rattle.game_model.specs.Query.{Query, states}
@@ -19,7 +19,7 @@ pub record IsSized (q : Query) (dirty : DirtySet) : Type 0 where
   pub marks : length dirty.marks.items ≡ states q
   pub more : length dirty.more.items ≡ states q
 
--- If an agenda says that all states are to be updated, each has a mark.
+-- If a dirty set says that all states are to be updated, each has a mark.
 abbrev pub IsWhole : Query → DirtySet → Type 0
 IsWhole q dirty = dirty.whole ≡ true → (s : ℕ) → s < states q → IsMarked dirty.marks.items s
 

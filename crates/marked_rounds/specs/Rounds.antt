@@ -17,7 +17,7 @@ pub record IsRacingSeat (q : Query) (rounds : ℕ) (seat : PassSeat) (dirty : Di
   pub won : seat.me.0.won ≤ rounds * states q
   pub swept : IsBelow q (down_steps q rounds) (read_of dirty)
 
--- The pass and the agenda are those after this many rounds.
+-- The pass and the dirty set are those after this many rounds.
 abbrev pub IsRacing : {P : Type 0} {h : _} → Query → ℕ → Pass P h → DirtySet → Type 0
 IsRacing q rounds pass dirty = IsRacingSeat q rounds pass.seat dirty
 

@@ -18,7 +18,7 @@ use round_workers::next_mark;
 use std::alloc::Global;
 use value_words::{Pass, Posing, ValueTable};
 
-/// An agenda has the values that were read last, and the states to update. A state without a mark is quiet: its down
+/// A dirty set has the values that were read last, and the states to update. A state without a mark is quiet: its down
 /// step over these values is at most its own value.
 #[derive(Drop)]
 pub struct DirtySet {
@@ -33,7 +33,7 @@ pub struct DirtySet {
 }
 
 impl DirtySet {
-    /// Makes the first agenda: all states are to be updated, and the values are those of the opening table.
+    /// Makes the first dirty set: all states are to be updated, and the values are those of the opening table.
     pub fn open(alloc: Global, question: &Question) -> Result<DirtySet, OutOfMemory>
         ensures sized { IfOk result (λ dirty. IsSized question.now dirty) }
         ensures opens { IfOk result (λ dirty. (s : ℕ) → s < states question.now

@@ -1,6 +1,6 @@
 //! This crate makes the rounds of one race over the states that may rise.
 //!
-//! A [`Runner`] has the shared words of a question and an [`DirtySet`]: the values that were read last, and marks on the
+//! A [`Runner`] has the shared words of a question and a [`DirtySet`]: the values that were read last, and marks on the
 //! states to update. [`open`] marks all of them, [`one_round`] lets the workers of a round update the marked ones,
 //! reads these again, and marks the predecessors of those whose values changed (a sweep that passes over states that
 //! can't rise: Moore and Atkeson, Prioritized sweeping, 1993), and [`close`] gives the words. After r rounds what was

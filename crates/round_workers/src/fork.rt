@@ -61,7 +61,7 @@ pub fn round<R: Threads + Sync, P: Posing + Send + Sync, G: Gate + Sync>(
     fork(rt, &task, pass, more, crew)
 }
 
-/// Makes the part of a crew. The first of `more` is the mark of its first state.
+/// Makes the part of a worker range. The first of `more` is the mark of its first state.
 fn fork<R: Threads + Sync, P: Posing + Send + Sync, G: Gate + Sync>(
     rt: &R,
     task: &Task<'_, P, G>,
@@ -99,7 +99,7 @@ fn fork<R: Threads + Sync, P: Posing + Send + Sync, G: Gate + Sync>(
     meet(task.table, left, right)
 }
 
-/// Returns the halves of a crew of at least two workers.
+/// Returns the halves of a worker range of at least two workers.
 fn halves<P: Posing>(table: &ValueTable<'_, P>, crew: WorkerRange) -> (WorkerRange, WorkerRange)
     requires crew { IsWorkerRange P.posed.game crew }
     requires some { 2 ≤ crew.last - crew.first }

@@ -6,7 +6,7 @@ ghost use Rattle.round_workers.specs.Share.{most_workers};
 use crate::share::first_state;
 use game_model::Game;
 
-/// A crew is a row of the `workers` of a round: from `first` up to and not including `last`. Their states go from `low`
+/// A worker range is a row of the `workers` of a round: from `first` up to and not including `last`. Their states go from `low`
 /// up to and not including `high`.
 #[derive(Clone, Copy)]
 pub struct WorkerRange {
@@ -24,7 +24,7 @@ impl WorkerRange {
     ghost use Rattle.std.specs.Prelude.{◌≡◌, ◌-◌, length};
     ghost use Rattle.round_workers.specs.inside.WorkerRanges.{IsWorkerRange, AreHalves};
 
-    /// Makes the crew of all workers of a round.
+    /// Makes the worker range of all workers of a round.
     pub fn all(game: &Game, workers: u32) -> WorkerRange
         requires { (1 ≤ workers) × (workers ≤ most_workers) }
         ensures crew { IsWorkerRange game.now result }

@@ -17,7 +17,7 @@ use std::thread::Threads;
 use upper_guess::Alone;
 use zero_sets::zero_set;
 
-// Teams of several sizes make the guess that one worker makes, by as many up steps.
+// Parallel sweeps of several sizes make the guess that one worker makes, by as many up steps.
 fn teams_agree<R: Threads + Sync>(
     rt: &R,
     alloc: Global,
@@ -40,7 +40,7 @@ fn teams_agree<R: Threads + Sync>(
     Ok(())
 }
 
-// Teams agree over a game of one player, whose goal is this state.
+// Parallel sweeps agree over a game of one player, whose goal is this state.
 fn teams_agree_over<R: Threads + Sync>(
     rt: &R,
     alloc: Global,
@@ -66,7 +66,7 @@ fn teams_guess_what_one_worker_does(rt: HostRuntime) -> Result<(), Fail> {
     teams_agree_over(&rt, alloc, game, Side::Min, 2, &[0, 0, UNIT, 0])
 }
 
-// Teams agree over the table that is 0 everywhere.
+// Parallel sweeps agree over the table that is 0 everywhere.
 fn teams_agree_from_nothing<R: Threads + Sync>(
     rt: &R,
     alloc: Global,
@@ -82,7 +82,7 @@ fn teams_guess_the_same_over_a_drawn_game(rt: HostRuntime) -> Result<(), Fail> {
     teams_agree_over_drawn(&rt, rt.alloc(), 7, 200)
 }
 
-// Teams agree over a drawn game.
+// Parallel sweeps agree over a drawn game.
 fn teams_agree_over_drawn<R: Threads + Sync>(
     rt: &R,
     alloc: Global,

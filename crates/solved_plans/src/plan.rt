@@ -1,4 +1,4 @@
-//! This module makes the plan that is handed out.
+//! This module makes the plan that is certified.
 
 ghost use Rattle.std.specs.Prelude.{IfOk};
 ghost use Rattle.game_model.specs.Dual.{IsZeroSet};

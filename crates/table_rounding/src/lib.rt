@@ -5,7 +5,7 @@
 //! planned one of the minimiser give. [`round_component`] finds entries for the states of a component that hold and are
 //! near values, and [`single_entry`] finds that of a component of one state. [`UnitTable`] is a table of units.
 //!
-//! Values are rounded, settled in floating point by rounded steps, and mended by exact ones in 128 bits, until each
+//! Values are rounded, settled in floating point by rounded steps, and repaired by exact ones in 128 bits, until each
 //! entry holds. If that would take long, values are moved away by some units for each move that the policy is expected
 //! to make, or found anew when each move costs some units. Then they are brought back as near as entries settle soon.
 //! If nothing helps, the entries are 0 or the unit.

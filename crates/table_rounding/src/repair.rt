@@ -1,4 +1,4 @@
-//! This module mends a table by exact steps.
+//! This module repairs a table by exact steps.
 
 ghost use Rattle.std.specs.Prelude.{◌≡◌, ◌<◌, length};
 ghost use Rattle.game_model.specs.Query.{states};

@@ -1,4 +1,4 @@
-//! This module rounds values: they are settled in floating point, and mended.
+//! This module rounds values: they are settled in floating point, and repaired.
 
 ghost use Rattle.std.specs.Prelude.{◌≡◌, ◌<◌, IfOk, length, vec_len};
 ghost use Rattle.game_model.specs.Query.{states};
@@ -24,7 +24,7 @@ pub struct Effort {
 /// A try has at most this many sweeps.
 const SWEEPS: u64 = 1_000_000;
 
-/// Values count as settled if at most one in this many nodes changes. The rest is mended.
+/// Values count as settled if at most one in this many nodes changes. The rest is repaired.
 const FEW: usize = 2_000;
 
 /// Tries to round values to entries of the component that hold. It returns false if that takes long, and the entries

@@ -40,7 +40,7 @@ pub trait LineReader: Drop {
         ensures { (number : ℕ) → answers self number [] result };
 }
 
-/// A feed passes the lines of a text on to a reader. Blank lines wait until another line follows, since those at the
+/// A feeder passes the lines of a text on to a reader. Blank lines wait until another line follows, since those at the
 /// end of a text don't count.
 #[derive(Drop)]
 pub struct LineFeeder<R: LineReader> {
@@ -50,7 +50,7 @@ pub struct LineFeeder<R: LineReader> {
 }
 
 impl<R: LineReader> LineFeeder<R> {
-    /// Returns the feed of a reader that has taken nothing yet.
+    /// Returns the feeder of a reader that has taken nothing yet.
     pub fn new(reader: R) -> LineFeeder<R>
         ensures reader { result.reader ≡ reader }
         ensures next { result.next ≡ 1 }

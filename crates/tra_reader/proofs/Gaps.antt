@@ -1,4 +1,4 @@
--- Gaps between whole choices, and what all whole choices make.
+-- Gaps between finished choices, and what all finished choices make.
 use Rattle.std.proofs.Common.{◌≡◌, ◌∙◌, ◌<◌, ◌≤◌, inl, inr, ℕ, suc, ◌+◌, ◌*◌, List, [], ◌∷◌, length, map, unwrap_or}
 use Rattle.std.proofs.Common.{Option, Some, None, Result, Err, refl, sym, ap, ap₂, subst, arith, add-zero}
 use Rattle.std.specs.List.{All}
@@ -85,7 +85,7 @@ before_first n place ts whole parts empty are low within none made = record {
     no_part [] e = refl
     no_part (u ∷ us) e = cc
 
--- 2. All whole choices.
+-- 2. All finished choices.
 
 pub made_of_all : (n : ℕ) (ts : List Transition) (whole : FinishedChoices) (progress : BuildState) → whole.state ≡ n
     → whole.choice ≡ 0 → whole.progress ≡ progress → IsWhole n ts whole → IsMade n ts n 0 whole.count progress

@@ -114,7 +114,7 @@ whole_next game n ts t ended next is within lt state ends goes =
     let Q : ℕ → Type 0 = λ s. AreWholeBefore n us (place_of s t.choice) ended in
     goes n us (subst P (sym state) (last_there ts t small)) small (subst Q (sym state) before)
 
--- the whole choices are those of all states
+-- the finished choices are those of all states
 pub record AreAll (n : ℕ) (ts : List Transition) (whole : FinishedChoices) : Type 0 where
   pub state : whole.state ≡ n
   pub choice : whole.choice ≡ 0

@@ -99,7 +99,7 @@ gap_stays ts t s k i j is lt gap = record {
   found = still_there ts t i gap.later gap.found;
 }
 
--- what has come of the whole choices stays
+-- what has come of the finished choices stays
 pub made_stays : (n : ℕ) (ts : List Transition) (t : Transition) (s k count : ℕ) (progress : BuildState)
     → t.choice < most_stated_choices → k ≤ most_stated_choices → place_of s k ≤ transition_place t
     → IsMade n ts s k count progress → IsMade n (ts ++ t ∷ []) s k count progress

@@ -1,4 +1,4 @@
-//! This module says what has become of the whole choices of a game under way.
+//! This module says what has become of the finished choices of a game under way.
 
 ghost use Rattle.std.specs.Prelude.{◌≡◌, ◌≤◌, IfOk, IfErr};
 ghost use Rattle.game_model.specs.Limits.{most_choices};
@@ -11,7 +11,7 @@ use game_model::{Choice, Edge, GameBuilder, MOST_CHOICES};
 use std::alloc::{AllocError, Global};
 use transition_lines::{MOST_LINES, TraFault};
 
-/// The progress says what has become of the whole choices.
+/// The build state says what has become of the finished choices.
 #[derive(Drop)]
 pub enum BuildState {
     /// They are in the builder.
@@ -113,7 +113,7 @@ fn build(
     Ok(())
 }
 
-// Returns the progress after a choice with this fault.
+// Returns the build state after a choice with this fault.
 fn fault_progress(state: u32, choice: u32, fault: ChoiceFault) -> BuildState
     ensures { result ≡ progress_of state choice fault }
 {

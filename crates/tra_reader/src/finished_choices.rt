@@ -16,7 +16,7 @@ use game_model::{Edge, Game};
 use std::alloc::Global;
 use transition_lines::{TraCause, TraFault};
 
-/// The whole choices are all that come before one choice of one state.
+/// The finished choices are all that come before one choice of one state.
 #[derive(Drop)]
 pub struct FinishedChoices {
     pub state: u32,
@@ -87,7 +87,7 @@ impl FinishedChoices {
         self.choice = choice;
     }
 
-    /// Makes the game of the whole choices, which are those of all states, or gives the first fault of the whole.
+    /// Makes the game of the finished choices, which are those of all states, or gives the first fault of the whole.
     pub fn finish(self, stated: Option<u32>) -> Result<Game, TraFault>
         requires { IfBuilds self.progress IsReady }
         ensures { (n : ℕ) (transitions : List Transition) → self.state ≡ n → self.choice ≡ 0

@@ -17,7 +17,7 @@ use std::alloc::{AllocError, Global};
 use text_lines::LineReader;
 use transition_lines::{Header, TraFault, Transition};
 
-/// Reads a text whose transitions come in the order of their choices. It keeps no row, and halts at the first line that
+/// Reads a text whose transitions come in the order of their choices. It keeps no row, and stops at the first line that
 /// comes before the choice under way.
 #[derive(Drop)]
 pub struct OrderedLines {

@@ -3,7 +3,7 @@
 use std::alloc::AllocError;
 use transition_lines::{TraCause, TraFault};
 
-/// A halt is the reason why a reader of lines in order ends.
+/// A stop is the reason why a reader of lines in order ends.
 #[derive(Clone, Copy, Debug, PartialEq, Eq)]
 pub enum Stop {
     /// A line comes before the choice under way.

@@ -31,7 +31,7 @@ mdp-test-from Max reply c h least = absurd (cc)
 mdp-test-from Min None c h least = absurd (cc)
 mdp-test-from Min (Some d) c h least = ap Some (eqb-true d c h)
 
--- whether a choice is one of the cut question, and all its successors have the number of its state
+-- whether a choice is one of the MDP of the replies, and all its successors have the number of its state
 pub listed-by : Query → List (Option ℕ) → List ℕ → ℕ → ℕ → Bool
 listed-by q replies part s c = mdp-test (side_at q s) (slice_index_or replies s None) c
     && list_all (numbered part (slice_index part s)) (destinations (choice_of q.game s c).edges)

@@ -4,7 +4,7 @@ use Rattle.game_model.specs.declared.game.Side.TheVariants.{Min}
 use Rattle.game_model.specs.Game.{choices_of, choice_of, destinations}
 use Rattle.game_model.specs.Query.{Query, side_at}
 
--- A choice is one of the cut question if it is the reply of a state of the minimiser, or any choice of a state of the
+-- A choice is one of the MDP of the replies if it is the reply of a state of the minimiser, or any choice of a state of the
 -- maximiser.
 pub record IsReplyMdp (q : Query) (replies : List (Option ℕ)) (s c : ℕ) : Type 0 where
   pub inside : c < length (choices_of q.game s)

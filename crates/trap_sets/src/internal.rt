@@ -15,7 +15,7 @@ use game_outside::OutOfMemory;
 use predecessors::ChoiceFlags;
 use std::alloc::Global;
 
-/// The parts of a cut question come with a flag for each choice, in the order of the game, that says whether it is
+/// The parts of an MDP of the replies come with a flag for each choice, in the order of the game, that says whether it is
 /// internal.
 #[derive(Drop)]
 pub struct Internal<'a> {

@@ -8,7 +8,7 @@ use crate::choices::stays;
 use game_model::{Question, Side};
 use predecessors::Predecessors;
 
-/// In the cut question each state of the minimiser has only its reply. It comes with the moves that lead to each state.
+/// In the MDP of the replies each state of the minimiser has only its reply. It comes with the moves that lead to each state.
 #[derive(Clone, Copy)]
 pub struct ReplyMdp<'a> {
     pub question: &'a Question<'a>,
@@ -25,7 +25,7 @@ impl ReplyMdp<'_> {
     ghost use Rattle.trap_sets.specs.Moves.{IsReplyMdp};
     ghost use Rattle.trap_sets.specs.inside.OfReplyMdp.{states_in, IsInternalIn};
 
-    /// Returns whether a choice is one of the cut question. A state of the minimiser has only its reply.
+    /// Returns whether a choice is one of the MDP of the replies. A state of the minimiser has only its reply.
     fn has(&self, state: u32, choice: u32) -> bool
         requires state { state < states_in self.now }
         requires choice { choice < length (choices_of self.now.question.now.game state) }
@@ -40,7 +40,7 @@ impl ReplyMdp<'_> {
         }
     }
 
-    /// Returns whether a choice is internal: it is one of the cut question, at a state with a part, and stays in this
+    /// Returns whether a choice is internal: it is one of the MDP of the replies, at a state with a part, and stays in this
     /// part.
     pub(crate) fn is_internal(&self, part: &[u32], state: u32, choice: u32) -> bool
         requires state { state < states_in self.now }

@@ -72,7 +72,7 @@ fn test_again(
     test(mdp, step.state, part, next_choice, gone)
 }
 
-/// Tests a state from its awaited choice on. The state waits for the next internal choice, and loses its part if it has
+/// Tests a state from its next choice on. The state waits for the next internal choice, and loses its part if it has
 /// none at all.
 fn test(
     mdp: &ReplyMdp<'_>,

@@ -24,7 +24,7 @@ use Rattle.transition_lines.specs.Order.{Rises, IsWithin, place_of, transition_p
 abbrev pub LeadsInside : ℕ → Distribution → Type 0
 LeadsInside n distribution = All (λ e. e.to < n) distribution.edges
 
--- 1. The whole choices are those of the first s states, and the first k of the next state.
+-- 1. The finished choices are those of the first s states, and the first k of the next state.
 
 -- No whole choice is missing, and `count` is their number. `crowded` is the first of the s states with too many
 -- choices, if there is one.
@@ -34,7 +34,7 @@ pub record AreCounted (crowded : Option ℕ) (transitions : List Transition) (s 
   pub there : (j : ℕ) → j < k → 0 < length (transitions_of transitions s j)
   pub total : count ≡ sum_of_first (choice_end transitions) s + k
 
--- The draft has the whole choices, and they lead to n states.
+-- The draft has the finished choices, and they lead to n states.
 pub record AreDrafted (n : ℕ) (transitions : List Transition) (s k : ℕ) (draft : Draft) : Type 0 where
   pub done : states_said transitions s ≡ Ok draft.done
   pub under_way : choices_said transitions s k ≡ Ok draft.under_way
@@ -51,7 +51,7 @@ pub record HaveChoiceFault (transitions : List Transition) (s k : ℕ) (fault : 
   pub done : states_said transitions s ≡ Ok before
   pub said : choices_said transitions s k ≡ Err fault
 
--- This is the first fault of the whole choices.
+-- This is the first fault of the finished choices.
 abbrev pub HaveFault : List Transition → ℕ → ℕ → TraFault → Type 0
 HaveFault transitions s k fault = (states_said transitions s ≡ Err fault) ⊎ HaveChoiceFault transitions s k fault
 
@@ -64,7 +64,7 @@ pub record HasGap (transitions : List Transition) (i j : ℕ) : Type 0 where
   pub behind : j < later
   pub found : 0 < length (transitions_of transitions i later)
 
--- This is the progress that the whole choices of n states make.
+-- This is the build state that the finished choices of n states make.
 abbrev pub IsMade : ℕ → List Transition → ℕ → ℕ → ℕ → BuildState → Type 0
 IsMade n transitions s k count (Builds draft) =
     AreCounted None transitions s k count × AreDrafted n transitions s k draft
@@ -73,11 +73,11 @@ IsMade n transitions s k count (Crowded i) = AreCounted (Some i) transitions s k
 IsMade n transitions s k count (Gap i j) = HasGap transitions i j × (place_of i j < place_of s k)
 IsMade n transitions s k count OutOfMemory = Unit {0}
 
--- This is the progress that these transitions between n states make with the choices before the one under way.
+-- This is the build state that these transitions between n states make with the choices before the one under way.
 abbrev pub IsWhole : ℕ → List Transition → FinishedChoices → Type 0
 IsWhole n transitions whole = IsMade n transitions whole.state whole.choice whole.count whole.progress
 
--- This is the place behind the whole choices.
+-- This is the place behind the finished choices.
 abbrev pub place_behind : FinishedChoices → ℕ
 place_behind whole = place_of whole.state whole.choice
 
@@ -155,7 +155,7 @@ IsChoiceFault parts fault = (fault ≡ NoMemory) ⊎ (choice_said parts ≡ Err 
 abbrev pub ended : ℕ → ℕ → Draft → Draft
 ended s count draft = if count == 0 then with_state (with_choice draft (self_loop s)) else with_state draft
 
--- This is the progress after a choice with this fault.
+-- This is the build state after a choice with this fault.
 abbrev pub progress_of : ℕ → ℕ → ChoiceFault → BuildState
 progress_of s k NoMemory = OutOfMemory
 progress_of s k (TooFine first second) = Faulty (fault_of_choice s k (TooFine first second))
@@ -183,7 +183,7 @@ IsAsStated stated read (Some fault) = (game : Result (List (List Distribution)) 
 
 -- 3. These definitions are about the game.
 
--- A contract sees this of a game under way: the number of states, the whole choices, and the parts of the choice under
+-- A contract sees this of a game under way: the number of states, the finished choices, and the parts of the choice under
 -- way.
 pub record Growing : Type 0 where
   pub states : ℕ

@@ -2,7 +2,7 @@
 use Rattle.tra_reader.specs.declared.game_in_order.GameInOrder.TheInside.{Inside}
 use Rattle.tra_reader.specs.inside.GrowingGames.{Growing, HoldsSome}
 
--- A contract sees the number of states, the whole choices, and the parts of the choice under way.
+-- A contract sees the number of states, the finished choices, and the parts of the choice under way.
 abbrev pub growing_of : Inside → Growing
 growing_of g = record { states = g.states; whole = g.whole; parts = g.parts.items }
 

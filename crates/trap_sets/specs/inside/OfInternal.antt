@@ -5,7 +5,7 @@ use Rattle.trap_sets.specs.declared.internal.Internal.{Internal}
 use Rattle.trap_sets.specs.Moves.{Leads}
 use Rattle.trap_sets.specs.inside.Parts.{IsInternal, IsStep}
 
--- This is the number of states of the cut question.
+-- This is the number of states of the MDP of the replies.
 abbrev pub states_of : Internal → ℕ
 states_of internal = states internal.mdp.question.now
 
@@ -13,7 +13,7 @@ states_of internal = states internal.mdp.question.now
 abbrev pub LeadsOf : Internal → ℕ → ℕ → ℕ → Type 0
 LeadsOf internal = Leads internal.mdp.question.now
 
--- A choice of the cut question at a state with a part has all its successors in that part.
+-- A choice of the MDP of the replies at a state with a part has all its successors in that part.
 abbrev pub IsInternalOf : Internal → ℕ → ℕ → Type 0
 IsInternalOf internal = IsInternal internal.mdp.question.now internal.mdp.replies.now internal.part.now
 

@@ -11,7 +11,7 @@ Stays q of s c = (t : ℕ) → Leads q s c t → slice_index of t ≡ slice_inde
 abbrev pub Leaves : Query → List ℕ → ℕ → ℕ → Type 0
 Leaves q of s c = (t : ℕ) × Leads q s c t × (slice_index of t ≢ slice_index of s)
 
--- A choice of the cut question at a state with a part has all its successors in that part.
+-- A choice of the MDP of the replies at a state with a part has all its successors in that part.
 pub record IsInternal (q : Query) (replies : List (Option ℕ)) (part : List ℕ) (s c : ℕ) : Type 0 where
   pub some : slice_index part s ≢ 0
   pub mdp : IsReplyMdp q replies s c
