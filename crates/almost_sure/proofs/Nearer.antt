@@ -206,7 +206,8 @@ alive-within false gone h within = refl
 
 -- so a set that grew comes nearer
 pub ComesNearer-grown : (q : Query) (gone set : List Bool) → IsQuery q
-    → ((s : ℕ) → s < states q → is_dead q s ≡ true → slice_index_or gone s false ≡ true) → Grew q (gone_excluded gone) set
+    → ((s : ℕ) → s < states q → is_dead q s ≡ true → slice_index_or gone s false ≡ true)
+    → Grew q (gone_excluded gone) set
     → ComesNearer q gone set
 ComesNearer-grown q gone _ posed deads (from_goals members goals) = ComesNearer-goals q gone members goals
 ComesNearer-grown q gone _ posed deads (with_state members s grew inside within drawn) =

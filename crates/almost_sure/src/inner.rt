@@ -46,7 +46,12 @@ pub fn inner_set(
     ensures { IfOk result (λ set. IsAttractor question.now (gone_excluded gone.now) set.items) }
 {
     let leaving = leaving_choices(alloc, question, gone)?;
-    attractor_of(alloc, question, predecessors, &ExcludedGone { gone, leaving })
+    attractor_of(
+        alloc,
+        question,
+        predecessors,
+        &ExcludedGone { gone, leaving },
+    )
 }
 
 /// Says for each choice whether some successor is among these states.

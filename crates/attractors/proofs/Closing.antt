@@ -56,7 +56,8 @@ Contains-moves_into lists (t ∷ order) u m (suc k, l, same) listed =
 -- a choice that meets the members has been followed, once all moves to members have
 all-followed : (q : Query) (excluded : ExcludedSets) (lists : List (List Move)) (members : List Bool)
     (next_choice order : List ℕ) (s c : ℕ) → IsQuery q → ArePredecessors q.game lists
-    → IsAttractorSearch q excluded (moves_into lists order) members next_choice order → s < states q → c < length (choices_of q.game s)
+    → IsAttractorSearch q excluded (moves_into lists order) members next_choice order → s < states q
+    → c < length (choices_of q.game s)
     → meets members (choice_of q.game s c) ≡ true → Contains (moves_into lists order) (move s c)
 all-followed q excluded lists members next_choice order s c posed are h ls lc meet =
     let one : (k : ℕ) × (k < length (choice_of q.game s c).edges)
@@ -78,7 +79,8 @@ side-left q excluded lists members next_choice order s Max is_side posed are h l
     left-by-none q excluded members s is_side (λ c lc serve.
     let both : (excluded.choices (choice_of q.game s c) ≡ false) × (meets members (choice_of q.game s c) ≡ true) =
     serves-both excluded members (choice_of q.game s c) serve in
-    left.greatest is_side c lc both.0 (all-followed q excluded lists members next_choice order s c posed are h l lc both.1))
+    left.greatest is_side c lc both.0
+    (all-followed q excluded lists members next_choice order s c posed are h l lc both.1))
 side-left q excluded lists members next_choice order s Min is_side posed are h l left =
     left-by-one q excluded members s (slice_index next_choice s) is_side (left.least is_side).inside
     (unserved-by excluded members (choice_of q.game s (slice_index next_choice s))

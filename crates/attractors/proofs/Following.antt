@@ -42,7 +42,8 @@ pub IsAttractorSearch-awaits : (q : Query) (excluded : ExcludedSets) (followed :
     → ((c : ℕ) → c < next → serves excluded members (choice_of q.game t c) ≡ true)
     → serves excluded members (choice_of q.game t next) ≡ false
     → IsAttractorSearch q excluded followed members (set next_choice t next) order
-IsAttractorSearch-awaits q excluded followed members next_choice order t next h inside minimiser within before unserved =
+IsAttractorSearch-awaits q excluded followed members next_choice order t next h inside minimiser
+    within before unserved =
     let at : slice_index (set next_choice t next) t ≡ next =
     get_or-set_same next_choice t next 0 (omega (arith, inside, h.as_many)) in
     let new : Awaits q excluded followed members t next = record {
@@ -78,7 +79,8 @@ IsAttractorSearch-awaits q excluded followed members next_choice order t next h 
 
 -- a state that is attracted joins
 pub IsAttractorSearch-member : (q : Query) (excluded : ExcludedSets) (followed : List Move) (members : List Bool)
-    (next_choice order : List ℕ) (t : ℕ) → IsAttractorSearch q excluded followed members next_choice order → t < states q
+    (next_choice order : List ℕ) (t : ℕ) → IsAttractorSearch q excluded followed members next_choice order
+    → t < states q
     → slice_index_or members t false ≡ false → excluded.states t ≡ false → is_attracted q excluded members t ≡ true
     → IsAttractorSearch q excluded followed (set members t true) next_choice (order ++ t ∷ [])
 IsAttractorSearch-member q excluded followed members next_choice order t h inside out within drawn =
@@ -121,7 +123,8 @@ before-next q excluded members t choice next old passed c l = elim (cases_lt c c
   | inr upward ↦ passed c upward l
 ]
 
-module _ (q : Query) (excluded : ExcludedSets) (followed : List Move) (members : List Bool) (next_choice order : List ℕ) (m : Move)
+module _ (q : Query) (excluded : ExcludedSets) (followed : List Move) (members : List Bool) (next_choice order : List ℕ)
+    (m : Move)
     (leads : LeadsIn q.game members m) (h : IsAttractorSearch q excluded followed members next_choice order) where
   meets-here : meets members (choice_of q.game m.state m.choice) ≡ true
   meets-here = meets-at members (choice_of q.game m.state m.choice) leads.to leads.leads.successor leads.member
@@ -172,7 +175,8 @@ module _ (q : Query) (excluded : ExcludedSets) (followed : List Move) (members :
         let stays' : excluded.choices (choice_of q.game m.state m.choice) ≡ false =
         subst (λ (x : Move). excluded.choices (choice_of q.game x.state x.choice) ≡ false) (sym is) stays in
         sides-differ (side_at q s) is_side (ap (side_at q) (sym at)
-        ∙ (idle (ap (λ t. slice_index_or members t false) at ∙ out) (ap (λ t. excluded.states t) at ∙ within) stays').0))
+        ∙ (idle (ap (λ t. slice_index_or members t false) at ∙ out) (ap (λ t. excluded.states t) at
+        ∙ within) stays').0))
         (λ is_side stays is.
         let at : m.state ≡ s = ap (λ (x : Move). x.state) is in
         let stays' : excluded.choices (choice_of q.game m.state m.choice) ≡ false =
@@ -194,7 +198,8 @@ module _ (q : Query) (excluded : ExcludedSets) (followed : List Move) (members :
 
   -- the choices before the next one
   passed-here : slice_index_or members m.state false ≡ false → excluded.states m.state ≡ false → side_at q m.state ≡ Min
-      → slice_index next_choice m.state ≡ m.choice → excluded.choices (choice_of q.game m.state m.choice) ≡ false → (next : ℕ)
+      → slice_index next_choice m.state ≡ m.choice → excluded.choices (choice_of q.game m.state m.choice) ≡ false
+      → (next : ℕ)
       → ((c : ℕ) → m.choice + 1 ≤ c → c < next → serves excluded members (choice_of q.game m.state c) ≡ true) → (c : ℕ)
       → c < next → serves excluded members (choice_of q.game m.state c) ≡ true
   passed-here out within minimiser is_next_choice stays next passed =
@@ -225,12 +230,14 @@ IsAttractorSearch-joins q excluded followed members next_choice order m leads h 
     let leads' : LeadsIn q.game (set members m.state true) m =
     record { to = leads.to; leads = leads.leads; member = stays-member members m.state leads.to inside leads.member } in
     IsAttractorSearch-noted q excluded followed (set members m.state true) next_choice (order ++ m.state ∷ []) m leads'
-    (IsAttractorSearch-member q excluded followed members next_choice order m.state h leads.leads.state out within drawn)
+    (IsAttractorSearch-member q excluded followed members next_choice order m.state h leads.leads.state out
+    within drawn)
     (λ out' within' stays. let member : slice_index_or (set members m.state true) m.state false ≡ true =
     get_or-set_same members m.state true false inside in absurd (cc))
 
 -- the state of the move waits for another choice
-pub IsAttractorSearch-waits : (q : Query) (excluded : ExcludedSets) (followed : List Move) (members : List Bool) (next_choice order : List ℕ)
+pub IsAttractorSearch-waits : (q : Query) (excluded : ExcludedSets) (followed : List Move) (members : List Bool)
+    (next_choice order : List ℕ)
     (m : Move) (next : ℕ) → LeadsIn q.game members m → IsAttractorSearch q excluded followed members next_choice order
     → slice_index_or members m.state false ≡ false → excluded.states m.state ≡ false → side_at q m.state ≡ Min
     → slice_index next_choice m.state ≡ m.choice → excluded.choices (choice_of q.game m.state m.choice) ≡ false
@@ -238,12 +245,15 @@ pub IsAttractorSearch-waits : (q : Query) (excluded : ExcludedSets) (followed : 
     → ((c : ℕ) → m.choice + 1 ≤ c → c < next → serves excluded members (choice_of q.game m.state c) ≡ true)
     → serves excluded members (choice_of q.game m.state next) ≡ false
     → IsAttractorSearch q excluded (followed ++ m ∷ []) members (set next_choice m.state next) order
-IsAttractorSearch-waits q excluded followed members next_choice order m next leads h out within minimiser is_next_choice stays later
+IsAttractorSearch-waits q excluded followed members next_choice order m next leads h out within minimiser is_next_choice
+    stays later
     inside passed unserved =
     let before : (c : ℕ) → c < next → serves excluded members (choice_of q.game m.state c) ≡ true =
-    passed-here q excluded followed members next_choice order m leads h out within minimiser is_next_choice stays next passed in
+    passed-here q excluded followed members next_choice order m leads h out within minimiser is_next_choice stays next
+    passed in
     let at : slice_index (set next_choice m.state next) m.state ≡ next =
     get_or-set_same next_choice m.state next 0 (omega (arith, leads.leads.state, h.as_many)) in
-    IsAttractorSearch-noted q excluded followed members (set next_choice m.state next) order m leads (IsAttractorSearch-awaits q excluded followed
+    IsAttractorSearch-noted q excluded followed members (set next_choice m.state next) order m leads
+    (IsAttractorSearch-awaits q excluded followed
     members next_choice order m.state next h leads.leads.state minimiser inside before unserved)
     (λ out' within' stays'. (minimiser, λ e. omega (arith, e, at, later)))

@@ -8,7 +8,8 @@ use Rattle.game_model.specs.declared.game.Side.{Side}
 use Rattle.game_model.specs.declared.game.Side.TheVariants.{Max, Min}
 use Rattle.game_model.specs.Game.{no_distribution, choices_of}
 use Rattle.game_model.specs.Query.{Query, states, is_goal, side_at}
-use Rattle.attractors.specs.Attractor.{ExcludedSets, serves, attracts, is_attracted, Grew, from_goals, with_state, IsClosed}
+use Rattle.attractors.specs.Attractor.{ExcludedSets, serves, attracts, is_attracted, Grew, from_goals, with_state}
+use Rattle.attractors.specs.Attractor.{IsClosed}
 use Rattle.attractors.specs.Attractor.{IsAttractor}
 use Rattle.attractors.specs.Search.{IsLarger}
 use Rattle.attractors.proofs.Tests.{any-place}
@@ -34,7 +35,8 @@ member-inside set s member = elim (cases_lt s (length set)) [
   | inr past ↦ let none : slice_index_or set s false ≡ false = get_or_past set s false past in absurd (cc)
 ]
 
-Grew-within : (q : Query) (excluded : ExcludedSets) (set other : List Bool) → Grew q excluded set → IsClosed q excluded other
+Grew-within : (q : Query) (excluded : ExcludedSets) (set other : List Bool) → Grew q excluded set
+    → IsClosed q excluded other
     → ((s : ℕ) → s < states q → is_goal q s ≡ true → slice_index_or other s false ≡ true) → IsLarger set other
 Grew-within q excluded _ other (from_goals set goals) closed has s member =
     let inside : s < states q = omega (arith, member-inside set s member, goals.many) in
@@ -43,7 +45,8 @@ Grew-within q excluded _ other (with_state set t grew inside free attracted) clo
   | inl same ↦ elim (cases_Bool (slice_index_or other s false)) [
     | inl there ↦ there
     | inr out ↦
-        let attracts_it : is_attracted q excluded other t ≡ true = attracted-more q excluded set other t (side_at q t) refl
+        let attracts_it : is_attracted q excluded other t ≡ true =
+        attracted-more q excluded set other t (side_at q t) refl
         (Grew-within q excluded set other grew closed has) attracted in
         let not_it : is_attracted q excluded other t ≡ false =
         closed t inside (ap (λ u. slice_index_or other u false) (sym same) ∙ out) free in
@@ -53,7 +56,8 @@ Grew-within q excluded _ other (with_state set t grew inside free attracted) clo
       (sym (get_or-set_other set t s true false apart) ∙ member)
 ]
 
-pub least : (q : Query) (excluded : ExcludedSets) (set other : List Bool) → IsAttractor q excluded set → IsClosed q excluded other
+pub least : (q : Query) (excluded : ExcludedSets) (set other : List Bool) → IsAttractor q excluded set
+    → IsClosed q excluded other
     → ((s : ℕ) → s < states q → is_goal q s ≡ true → slice_index_or other s false ≡ true) → IsLarger set other
 least q excluded set other h closed has = Grew-within q excluded set other h.grew closed has
 

@@ -32,7 +32,8 @@ pub serves-both : (excluded : ExcludedSets) (set : List Bool) (m : Distribution)
     → (excluded.choices m ≡ false) × (meets set m ≡ true)
 serves-both excluded set m h = served (excluded.choices m) (meets set m) h
 
-pub serves-by : (excluded : ExcludedSets) (set : List Bool) (m : Distribution) → excluded.choices m ≡ false → meets set m ≡ true
+pub serves-by : (excluded : ExcludedSets) (set : List Bool) (m : Distribution) → excluded.choices m ≡ false
+    → meets set m ≡ true
     → serves excluded set m ≡ true
 serves-by excluded set m h k = serve (excluded.choices m) (meets set m) h k
 
@@ -97,4 +98,5 @@ left-by-one q excluded set s c is_side l fails = ap (λ side. attracts side excl
 -- a state of the maximiser is attracted by some choice
 pub attracts-some : (q : Query) (excluded : ExcludedSets) (set : List Bool) (s : ℕ) → side_at q s ≡ Max
     → list_any (serves excluded set) (choices_of q.game s) ≡ true → is_attracted q excluded set s ≡ true
-attracts-some q excluded set s is_side some = ap (λ side. attracts side excluded set (choices_of q.game s)) is_side ∙ some
+attracts-some q excluded set s is_side some =
+    ap (λ side. attracts side excluded set (choices_of q.game s)) is_side ∙ some

@@ -28,7 +28,8 @@ smaller-fails q excluded set more s c larger fails = elim (cases_Bool (serves ex
 ]
 
 -- a state that a set does not attract is not attracted by a smaller one
-IsTested-smaller : (q : Query) (excluded : ExcludedSets) (set more : List Bool) (next_choice : List ℕ) (s : ℕ) → IsLarger set more
+IsTested-smaller : (q : Query) (excluded : ExcludedSets) (set more : List Bool) (next_choice : List ℕ) (s : ℕ)
+    → IsLarger set more
     → IsTested q excluded more next_choice s → IsTested q excluded set next_choice s
 IsTested-smaller q excluded set more next_choice s larger h = record {
   greatest = λ is_side c lc. smaller-fails q excluded set more s c larger (h.greatest is_side c lc);
@@ -47,14 +48,17 @@ IsTested-in q excluded set next_choice next_choice' s same h = record {
 -- a state tested before the next one was
 pub AreTested-more : (q : Query) (excluded : ExcludedSets) (old members members' : List Bool)
     (next_choice next_choice' : List ℕ) (t : ℕ) → IsLarger old members → IsLarger members members'
-    → AreTested q excluded old members next_choice t → ((s : ℕ) → s ≢ t → slice_index next_choice' s ≡ slice_index next_choice s)
+    → AreTested q excluded old members next_choice t
+    → ((s : ℕ) → s ≢ t → slice_index next_choice' s ≡ slice_index next_choice s)
     → (slice_index_or members' t false ≡ false → excluded.states t ≡ false → IsTested q excluded members next_choice' t)
     → AreTested q excluded old members' next_choice' (t + 1)
-AreTested-more q excluded old members members' next_choice next_choice' t larger grown before others here s l out within =
+AreTested-more q excluded old members members' next_choice next_choice' t larger grown before others here s l
+    out within =
     elim (cases_eq s t) [
       | inl same ↦
           subst
-          (λ u. slice_index_or members' u false ≡ false → excluded.states u ≡ false → IsTested q excluded old next_choice' u)
+          (λ u. slice_index_or members' u false ≡ false → excluded.states u ≡ false
+          → IsTested q excluded old next_choice' u)
           (sym same)
           (λ out' within'. IsTested-smaller q excluded old members next_choice' t larger (here out' within')) out within
       | inr other ↦
@@ -93,35 +97,40 @@ move-meets q lists set order s c are many ordered among =
     meets-at set (choice_of q.game s c) one.0 leads.successor member
 
 -- where each state that is left was tested, the moves to the tested set may count as followed
-pub IsAttractorSearch-tested : (q : Query) (excluded : ExcludedSets) (lists : List (List Move)) (old members : List Bool)
+pub IsAttractorSearch-tested : (q : Query) (excluded : ExcludedSets) (lists : List (List Move))
+    (old members : List Bool)
     (next_choice order order' : List ℕ) → ArePredecessors q.game lists → length old ≡ states q
     → IsOrder old order → IsLarger old members → AreTested q excluded old members next_choice (states q)
-    → IsAttractorSearch q excluded [] members next_choice order' → IsAttractorSearch q excluded (moves_into lists order) members next_choice order'
-IsAttractorSearch-tested q excluded lists old members next_choice order order' are many ordered larger tested h = record {
-  many = h.many;
-  as_many = h.as_many;
-  ordered = h.ordered;
-  grew = h.grew;
-  leads = λ s c among.
-      meets-more old members (choice_of q.game s c) larger (move-meets q lists old order s c are many ordered among);
-  left = λ s l out within. record {
-    greatest = λ is_side c lc free among.
-        let serve : serves excluded old (choice_of q.game s c) ≡ true =
-        serves-by excluded old (choice_of q.game s c) free (move-meets q lists old order s c are many ordered among) in
-        let fails : serves excluded old (choice_of q.game s c) ≡ false = (tested s l out within).greatest is_side c lc in
-        cc;
-    least = λ is_side. record {
-      inside = ((h.left s l out within).least is_side).inside;
-      before = ((h.left s l out within).least is_side).before;
-      still = λ free among.
-          let c : ℕ = slice_index next_choice s in
-          let serve : serves excluded old (choice_of q.game s c) ≡ true =
-          serves-by excluded old (choice_of q.game s c) free (move-meets q lists old order s c are many ordered among) in
-          let fails : serves excluded old (choice_of q.game s c) ≡ false = (tested s l out within).least is_side in
-          cc;
-    };
-  };
-}
+    → IsAttractorSearch q excluded [] members next_choice order'
+    → IsAttractorSearch q excluded (moves_into lists order) members next_choice order'
+IsAttractorSearch-tested q excluded lists old members next_choice order order' are many ordered larger tested h =
+    record {
+      many = h.many;
+      as_many = h.as_many;
+      ordered = h.ordered;
+      grew = h.grew;
+      leads = λ s c among.
+          meets-more old members (choice_of q.game s c) larger (move-meets q lists old order s c are many ordered among);
+      left = λ s l out within. record {
+        greatest = λ is_side c lc free among.
+            let serve : serves excluded old (choice_of q.game s c) ≡ true =
+            serves-by excluded old (choice_of q.game s c) free (move-meets q lists old order s c are many ordered among) in
+            let fails : serves excluded old (choice_of q.game s c) ≡ false =
+            (tested s l out within).greatest is_side c lc in
+            cc;
+        least = λ is_side. record {
+          inside = ((h.left s l out within).least is_side).inside;
+          before = ((h.left s l out within).least is_side).before;
+          still = λ free among.
+              let c : ℕ = slice_index next_choice s in
+              let serve : serves excluded old (choice_of q.game s c) ≡ true =
+              serves-by excluded old (choice_of q.game s c) free
+              (move-meets q lists old order s c are many ordered among) in
+              let fails : serves excluded old (choice_of q.game s c) ≡ false = (tested s l out within).least is_side in
+              cc;
+        };
+      };
+    }
 
 -- a longer list begins with the shorter one
 pub take-longer : (xs ys : List ℕ) → IsLonger xs ys → take (length xs) ys ≡ xs

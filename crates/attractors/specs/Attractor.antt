@@ -6,8 +6,8 @@ use Rattle.game_model.specs.declared.game.Side.TheVariants.{Max, Min}
 use Rattle.game_model.specs.Game.{Distribution, choices_of}
 use Rattle.game_model.specs.Query.{Query, states, is_goal, is_dead, side_at}
 
--- Excluded states may not join, and excluded choices attract no state. Both stay in the game, so an excluded choice of the
--- minimiser is a way out for it.
+-- Excluded states may not join, and excluded choices attract no state. Both stay in the game, so an excluded choice of
+-- the minimiser is a way out for it.
 pub record ExcludedSets : Type 0 where
   pub states : ℕ → Bool
   pub choices : Distribution → Bool

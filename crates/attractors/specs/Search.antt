@@ -35,7 +35,8 @@ pub record Awaits (q : Query) (excluded : ExcludedSets) (followed : List Move) (
 
 -- This holds of a state that is no member. If it is the maximiser's, each of its choices that was followed is excluded.
 -- If it is the minimiser's, it waits for a choice.
-pub record IsLeft (q : Query) (excluded : ExcludedSets) (followed : List Move) (members : List Bool) (next_choice : List ℕ)
+pub record IsLeft (q : Query) (excluded : ExcludedSets) (followed : List Move) (members : List Bool)
+    (next_choice : List ℕ)
     (s : ℕ) : Type 0 where
   pub greatest : side_at q s ≡ Max → (c : ℕ) → c < length (choices_of q.game s)
       → excluded.choices (choice_of q.game s c) ≡ false → ¬ Contains followed (move s c)
@@ -59,7 +60,8 @@ IsLarger set more = (s : ℕ) → slice_index_or set s false ≡ true → slice_
 
 -- The choices of the state show that the set does not attract it: no choice of the maximiser serves, and the choice
 -- that the minimiser waits for does not serve.
-pub record IsTested (q : Query) (excluded : ExcludedSets) (set : List Bool) (next_choice : List ℕ) (s : ℕ) : Type 0 where
+pub record IsTested (q : Query) (excluded : ExcludedSets) (set : List Bool) (next_choice : List ℕ)
+    (s : ℕ) : Type 0 where
   pub greatest : side_at q s ≡ Max → (c : ℕ) → c < length (choices_of q.game s)
       → serves excluded set (choice_of q.game s c) ≡ false
   pub least : side_at q s ≡ Min → serves excluded set (choice_of q.game s (slice_index next_choice s)) ≡ false
@@ -70,7 +72,8 @@ AreTested q excluded old members next_choice upto = (s : ℕ) → s < upto → s
     → excluded.states s ≡ false → IsTested q excluded old next_choice s
 
 -- The moves to more members of the order were followed.
-pub record IsAdvanced (q : Query) (excluded : ExcludedSets) (lists : List (List Move)) (place next : ℕ) (members : List Bool)
+pub record IsAdvanced (q : Query) (excluded : ExcludedSets) (lists : List (List Move)) (place next : ℕ)
+    (members : List Bool)
     (next_choice order : List ℕ) : Type 0 where
   pub further : place < next
   pub within : next ≤ length order

@@ -53,7 +53,8 @@ fn advance<S: Excluded>(
     requires grown { IsAttractorSearch question.now (S.excluded excluded.now question.now)
         (moves_into predecessors.now (take place search.old.order.items)) search.old.members.items
         search.old.next_choice.items search.old.order.items }
-    ensures { IfOk result (λ next. IsAdvanced question.now (S.excluded excluded.now question.now) predecessors.now place next
+    ensures { IfOk result
+        (λ next. IsAdvanced question.now (S.excluded excluded.now question.now) predecessors.now place next
         search.new.members.items search.new.next_choice.items search.new.order.items) }
 {
     question.invariant();
@@ -93,7 +94,11 @@ fn go_back<S: Excluded>(
 }
 
 /// Tests each state that is no member.
-fn test_all<S: Excluded>(question: &Question, excluded: &S, search: &mut AttractorSearch) -> Result<(), OutOfMemory>
+fn test_all<S: Excluded>(
+    question: &Question,
+    excluded: &S,
+    search: &mut AttractorSearch,
+) -> Result<(), OutOfMemory>
     requires fits { S.fits excluded.now question.now }
     requires grown { IsAttractorSearch question.now (S.excluded excluded.now question.now)
         [] search.old.members.items search.old.next_choice.items search.old.order.items }

@@ -7,7 +7,8 @@ ghost use Rattle.attractors.specs.Search.{IsLarger};
 
 /// An attractor is the least set that has the goals and attracts no other state that is not excluded.
 pub fn attractors_are_least()
-    ensures { (q : Query) (excluded : ExcludedSets) (set other : List Bool) → IsAttractor q excluded set → IsClosed q excluded other
+    ensures { (q : Query) (excluded : ExcludedSets) (set other : List Bool) → IsAttractor q excluded set
+        → IsClosed q excluded other
         → ((s : ℕ) → s < states q → is_goal q s ≡ true → slice_index_or other s false ≡ true) → IsLarger set other }
 {}
 

@@ -44,7 +44,8 @@ pub fn some_serves<S: Excluded>(question: &Question, excluded: &S, set: &[bool],
     requires fits { S.fits excluded.now question.now }
     requires state { state < states question.now }
     requires many { length set.now ≡ states question.now }
-    ensures { result ≡ list_any (serves (S.excluded excluded.now question.now) set.now) (choices_of question.now.game state) }
+    ensures { result
+        ≡ list_any (serves (S.excluded excluded.now question.now) set.now) (choices_of question.now.game state) }
 {
     for choice in 0..question.game().choices_of(state) {
         if serves(question, excluded, set, state, choice) {
@@ -55,12 +56,19 @@ pub fn some_serves<S: Excluded>(question: &Question, excluded: &S, set: &[bool],
 }
 
 /// Returns whether the choice is not excluded and has a successor in the set.
-pub fn serves<S: Excluded>(question: &Question, excluded: &S, set: &[bool], state: u32, choice: u32) -> bool
+pub fn serves<S: Excluded>(
+    question: &Question,
+    excluded: &S,
+    set: &[bool],
+    state: u32,
+    choice: u32,
+) -> bool
     requires fits { S.fits excluded.now question.now }
     requires state { state < states question.now }
     requires choice { choice < length (choices_of question.now.game state) }
     requires many { length set.now ≡ states question.now }
-    ensures { result ≡ serves (S.excluded excluded.now question.now) set.now (choice_of question.now.game state choice) }
+    ensures { result
+        ≡ serves (S.excluded excluded.now question.now) set.now (choice_of question.now.game state choice) }
 {
     !excluded.excludes_choice(question, state, choice) && meets(question, set, state, choice)
 }

@@ -13,8 +13,8 @@ use game_outside::OutOfMemory;
 use predecessors::Move;
 use std::alloc::Global;
 
-/// `members` marks the members. `next_choice` has, for each state of the minimiser that is neither a member nor excluded, the
-/// first choice that is not known to serve. `order` lists the members in the order in which they joined.
+/// `members` marks the members. `next_choice` has, for each state of the minimiser that is neither a member nor
+/// excluded, the first choice that is not known to serve. `order` lists the members in the order in which they joined.
 #[derive(Drop)]
 pub struct AttractorSearch {
     pub members: Vec<bool>,
@@ -61,7 +61,8 @@ impl AttractorSearch {
         requires leads { LeadsIn question.now.game self.old.members.items step }
         ensures longer { OnOk result (IsLonger self.old.order.items self.new.order.items) }
         ensures grows { OnOk result ((followed : List Move) → IsAttractorSearch question.now
-            (S.excluded excluded.now question.now) followed self.old.members.items self.old.next_choice.items self.old.order.items
+            (S.excluded excluded.now question.now) followed self.old.members.items self.old.next_choice.items
+            self.old.order.items
             → IsAttractorSearch question.now (S.excluded excluded.now question.now)
             (followed ++ step ∷ []) self.new.members.items self.new.next_choice.items self.new.order.items) }
     {
@@ -116,7 +117,8 @@ impl AttractorSearch {
             ≡ slice_index self.old.next_choice.items s) }
         ensures tested { OnOk result (slice_index_or self.new.members.items state false ≡ false
             → (S.excluded excluded.now question.now).states state ≡ false
-            → IsTested question.now (S.excluded excluded.now question.now) self.old.members.items self.new.next_choice.items
+            → IsTested question.now
+            (S.excluded excluded.now question.now) self.old.members.items self.new.next_choice.items
             state) }
     {
         question.invariant();

@@ -11,11 +11,11 @@ ghost use Rattle.bracket_engine.specs.inside.Race.{AreOver};
 
 use crate::base::Base;
 use crate::bounds::Bracket;
+use crate::parallel_sweep::ParallelSweep;
 use crate::race::Raced;
 use crate::rounds::Rounds;
 use crate::sides::both_sides;
 use crate::tables::values_of_words;
-use crate::parallel_sweep::ParallelSweep;
 use fixed_bellman::settled;
 use game_model::Question;
 use game_outside::{Gate, OutOfMemory};

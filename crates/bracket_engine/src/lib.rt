@@ -10,8 +10,8 @@
 //! gives the same over lists of predecessors that the caller has. [`bracket_for`] gives it for a bound, with the zero
 //! set.
 //!
-//! The workers of a [`ParallelSweep`] fill the tables of a guess: the table is the same for every number of them and every
-//! schedule. One worker needs no thread.
+//! The workers of a [`ParallelSweep`] fill the tables of a guess: the table is the same for every number of them and
+//! every schedule. One worker needs no thread.
 #![tactic(auto)]
 
 mod base;
@@ -20,16 +20,16 @@ mod bracketed;
 mod closing;
 pub mod laws;
 mod lower;
+mod parallel_sweep;
 mod race;
 mod rounds;
 mod run;
 mod sides;
 mod stopping;
 mod tables;
-mod parallel_sweep;
 mod upper;
 
 pub use bounds::Bracket;
 pub use bracketed::{Bracketed, bracket_for};
-pub use run::{MOST_ROUNDS, bracket, bracket_over};
 pub use parallel_sweep::ParallelSweep;
+pub use run::{MOST_ROUNDS, bracket, bracket_over};

@@ -3,8 +3,8 @@
 ghost use Rattle.std.specs.Prelude.{◌≤◌};
 ghost use Rattle.round_workers.specs.Share.{most_workers};
 
-use crate::stopping::Ending;
 use crate::parallel_sweep::ParallelSweep;
+use crate::stopping::Ending;
 use game_outside::Gate;
 use std::thread::Threads;
 

@@ -11,10 +11,10 @@ ghost use Rattle.bracket_engine.specs.Found.{IsBracketOfRun};
 
 use crate::bounds::Bracket;
 use crate::closing::bracket_of;
+use crate::parallel_sweep::ParallelSweep;
 use crate::race::race;
 use crate::rounds::Rounds;
 use crate::stopping::Ending;
-use crate::parallel_sweep::ParallelSweep;
 use game_model::{Marks, Question};
 use game_outside::{Gate, OutOfMemory};
 use inductive_check::swap;

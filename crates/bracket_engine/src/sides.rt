@@ -10,8 +10,8 @@ ghost use Rattle.bracket_engine.specs.Stop.{AreUpperParts};
 
 use crate::base::Base;
 use crate::lower::lower_side;
-use crate::stopping::SettlingGuess;
 use crate::parallel_sweep::ParallelSweep;
+use crate::stopping::SettlingGuess;
 use crate::upper::{UpperSide, upper_side};
 use game_outside::OutOfMemory;
 use lower_guess::LowerGuess;
@@ -19,8 +19,8 @@ use std::alloc::Global;
 use std::thread::{Threads, join};
 use value_words::Words;
 
-/// Makes both sides over a base, which has the values of these words. If the parallel sweep has several workers, one of them
-/// makes the lower side while the others make the upper side. One worker makes the two sides in turn, and needs no
+/// Makes both sides over a base, which has the values of these words. If the parallel sweep has several workers, one of
+/// them makes the lower side while the others make the upper side. One worker makes the two sides in turn, and needs no
 /// thread.
 pub fn both_sides<R: Threads + Sync>(
     parallel: &ParallelSweep<'_, R>,

@@ -6,9 +6,9 @@ ghost use Rattle.bracket_engine.specs.inside.Sides.{IsUpperSide};
 ghost use Rattle.bracket_engine.specs.Stop.{AreUpperParts, IsKeptGuess, IsLeastGuess, IsUpperFrom};
 
 use crate::base::Base;
+use crate::parallel_sweep::ParallelSweep;
 use crate::stopping::SettlingGuess;
 use crate::tables::{complements, lesser};
-use crate::parallel_sweep::ParallelSweep;
 use game_outside::OutOfMemory;
 use inductive_check::replies;
 use std::alloc::Global;
@@ -24,8 +24,8 @@ pub struct UpperSide {
     pub replies: Vec<Option<u32>>,
 }
 
-/// Makes the upper table, whose guess is over the base, and the replies to it. The parallel sweep fills the tables of the guess.
-/// The swapped values are dropped after they are read.
+/// Makes the upper table, whose guess is over the base, and the replies to it. The parallel sweep fills the tables of
+/// the guess. The swapped values are dropped after they are read.
 pub fn upper_side<R: Threads + Sync>(
     parallel: &ParallelSweep<'_, R>,
     alloc: Global,
@@ -86,11 +86,25 @@ fn least_guess<R: Threads + Sync>(
         },
     ) = kept
     else {
-        return guess_with(parallel, alloc, question, zero, values, &mut Witnesses::none());
+        return guess_with(
+            parallel,
+            alloc,
+            question,
+            zero,
+            values,
+            &mut Witnesses::none(),
+        );
     };
     if over.as_slice() == values {
         return Ok(earlier);
     }
-    let guessed = guess_with(parallel, alloc, question, zero, values, &mut Witnesses::none())?;
+    let guessed = guess_with(
+        parallel,
+        alloc,
+        question,
+        zero,
+        values,
+        &mut Witnesses::none(),
+    )?;
     lesser(alloc, &guessed, &earlier)
 }

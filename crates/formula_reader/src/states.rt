@@ -203,7 +203,8 @@ fn read_reached<'a>(
 /// Reads a state formula, if `room` more `!`, `(` and `[` may be open in it.
 #[cycle(state)]
 pub fn read_state<'a>(alloc: Global, room: u32, cursor: Cursor<'a>) -> Read<'a>
-    ensures { AnswersOrWants IsOutOfMemory (read_at state_of) result (implied (unary (nested room)) (tokens_at cursor.entry)) }
+    ensures { AnswersOrWants IsOutOfMemory (read_at state_of) result
+        (implied (unary (nested room)) (tokens_at cursor.entry)) }
 {
     level_state(alloc, Level::Implication, room, cursor)
 }

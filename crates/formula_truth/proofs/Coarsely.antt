@@ -30,7 +30,8 @@ use Rattle.verdicts.proofs.Mirrored.{mirrored as mirrored-verdict}
 use Rattle.formula_truth.specs.declared.way.Way.TheVariants.{ByRounds}
 use Rattle.formula_truth.specs.Truth.{states, everywhere, question_by}
 use Rattle.formula_truth.specs.ThreeValued.{Band, Known, verdict_at, exactly, negated}
-use Rattle.formula_truth.specs.InnerRuns.{AreAnswered, AreSwept, AreFoundBy, pessimistic, optimistic, units_at, mirrored}
+use Rattle.formula_truth.specs.InnerRuns.{AreAnswered, AreSwept, AreFoundBy, pessimistic, optimistic, units_at}
+use Rattle.formula_truth.specs.InnerRuns.{mirrored}
 use Rattle.formula_truth.specs.Sound.{IsAround, IsBetween}
 use Rattle.formula_truth.specs.RoundBounds.{AreStepped, AreCoarseBy, IsFiner}
 use Rattle.formula_truth.proofs.Posed.{is_query}

@@ -28,7 +28,8 @@ use Rattle.formula_truth.specs.declared.way.Way.TheVariants.{ByRounds, BySolver}
 use Rattle.formula_truth.specs.Truth.{states, question_by, dual_question_by, everywhere}
 use Rattle.formula_truth.specs.Rest.{IsBelowRest, IsNearRest}
 use Rattle.formula_truth.specs.ThreeValued.{Band, Known, exactly, negated}
-use Rattle.formula_truth.specs.InnerRuns.{IsAnsweredBy, AreAnswered, AreSwept, AreFoundBy, pessimistic, optimistic, units_at}
+use Rattle.formula_truth.specs.InnerRuns.{IsAnsweredBy, AreAnswered, AreSwept, AreFoundBy, pessimistic, optimistic}
+use Rattle.formula_truth.specs.InnerRuns.{units_at}
 use Rattle.formula_truth.specs.InnerRuns.{mirrored}
 use Rattle.formula_truth.specs.Sound.{IsAround, IsBetween, AreSoundBy}
 use Rattle.formula_truth.proofs.Ordered.{next_numerator-wider}

@@ -8,8 +8,8 @@ ghost use Rattle.text_lines.specs.Laws.{HasNo, IsEndOf};
 use text_lines::{LineFeeder, LineReader, ended_line};
 
 // Passes on a line, and after it each line that ends in an LF of these bytes. It returns what follows the last LF, the
-// front of a line that may go on. `LineFeeder::line` is called in one place, so that the compiler may put the reader into
-// this loop.
+// front of a line that may go on. `LineFeeder::line` is called in one place, so that the compiler may put the reader
+// into this loop.
 pub(crate) fn feed_lines<'b, R: LineReader>(
     line: &[u8],
     bytes: &'b [u8],

@@ -108,7 +108,11 @@ pub fn read_again<P: Posing>(
 
 /// Reads the states with a second mark, and says how many values changed. The states that changed keep it, and the
 /// others lose it.
-fn read_marked<P: Posing>(table: &ValueTable<'_, P>, pass: &mut Pass<P>, dirty: &mut DirtySet) -> u32
+fn read_marked<P: Posing>(
+    table: &ValueTable<'_, P>,
+    pass: &mut Pass<P>,
+    dirty: &mut DirtySet,
+) -> u32
     requires pass { IsOf table.now pass.old }
     requires sized { IsSized P.posed dirty.old }
     requires below { (s : ℕ) → s < states P.posed → read_of dirty.old s ≤ seen_by pass.old s }

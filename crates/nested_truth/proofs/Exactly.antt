@@ -24,7 +24,8 @@ use Rattle.verdicts.specs.declared.verdict.Verdict.TheVariants.{Yes, No, Undecid
 use Rattle.verdicts.specs.Verdict.{verdict_by, verdict_of, is_yes, is_no, is_undecided}
 use Rattle.formula_truth.specs.declared.way.Way.{Way}
 use Rattle.formula_truth.specs.Truth.{states, everywhere}
-use Rattle.formula_truth.specs.ThreeValued.{Band, Bands, Known, exactly, negated, surely, possibly, verdict_at, undecided_in}
+use Rattle.formula_truth.specs.ThreeValued.{Band, Bands, Known, exactly, negated, surely, possibly, verdict_at}
+use Rattle.formula_truth.specs.ThreeValued.{undecided_in}
 use Rattle.formula_truth.specs.InnerRuns.{AreAnswered, AreSwept, AreFoundBy, pessimistic, optimistic, units_at}
 use Rattle.nested_truth.specs.Seen.{AreAlike}
 use Rattle.formula_truth.specs.Sound.{IsAround}

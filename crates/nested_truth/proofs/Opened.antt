@@ -42,7 +42,8 @@ use Rattle.formula_truth.proofs.Coarsely.{HasUnits, bounded-units, verdict-mirro
 -- 1. A run on one question, at a state where it looks.
 
 found-open : (q : Query) (zero : List Bool) (bound : Bound) (starts : List ℕ) (asked : ℕ) (found : Bracket)
-    → IsQuery q → IsBracketOfRun q zero bound starts asked found → (s : ℕ) → s < length q.game → IsLookedAt bound starts s
+    → IsQuery q → IsBracketOfRun q zero bound starts asked found → (s : ℕ) → s < length q.game
+    → IsLookedAt bound starts s
     → verdict_of bound (slice_index found.plan.lower.items s) (slice_index found.plan.upper.items s) ≡ Undecided
     → IsLeftOpen q zero bound asked (slice_index found.plan.lower.items) (slice_index found.plan.upper.items) s
 found-open q zero bound starts asked found posed run s inside looked undecided =

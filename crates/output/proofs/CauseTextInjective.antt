@@ -24,7 +24,8 @@ use Rattle.values_reader.specs.declared.fault.ValuesCause.{ValuesCause}
 use Rattle.values_reader.specs.declared.fault.ValuesCause.TheVariants as values
 use Rattle.output.specs.Refusals.{number_text, choice_text, tra_text, lab_text, values_text, formula_text}
 use Rattle.output.specs.Refusals.{question_text, plan_cause_text, upper_text, ranks_text}
-use Rattle.output.specs.Printable.{IsPrintable, ArePrintable, ChoicePrintable, TraPrintable, LabPrintable, UpperPrintable, RanksPrintable}
+use Rattle.output.specs.Printable.{IsPrintable, ArePrintable, ChoicePrintable, TraPrintable, LabPrintable}
+use Rattle.output.specs.Printable.{UpperPrintable, RanksPrintable}
 use Rattle.output.proofs.Labelled.{at, numbered-one, pair-one, place-onto}
 
 number_fault-one : (a b : NumberFault) → number_text a ≡ number_text b → a ≡ b
@@ -91,7 +92,8 @@ lab-one (lab.TwoOwners state) (lab.TwoOwners other) ha hb e =
     cc
 lab-one a b ha hb e = absurd (omega (arith, at e 0, at e 3, at e 6))
 
-choice-one : (m n i j : ℕ) (a b : ChoiceFault) → ArePrintable m n → ArePrintable i j → ChoicePrintable a → ChoicePrintable b
+choice-one : (m n i j : ℕ) (a b : ChoiceFault) → ArePrintable m n → ArePrintable i j → ChoicePrintable a
+    → ChoicePrintable b
     → choice_text m n a ≡ choice_text i j b → (m ≡ i) × (n ≡ j) × (a ≡ b)
 choice-one m n i j choice.OutOfMemory choice.OutOfMemory h k ha hb e =
     let place =

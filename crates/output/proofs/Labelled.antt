@@ -10,7 +10,8 @@ use Rattle.output.specs.Printable.{IsPrintable, ArePrintable}
 pub at : {xs ys : List ℕ} → xs ≡ ys → (i : ℕ) → get_or xs i 0 ≡ get_or ys i 0
 at e i = ap (λ (t : List ℕ). get_or t i 0) e
 
-pub numbered-one : (label : List ℕ) (m n : ℕ) → IsPrintable m → IsPrintable n → numbered label m ≡ numbered label n → m ≡ n
+pub numbered-one : (label : List ℕ) (m n : ℕ) → IsPrintable m → IsPrintable n → numbered label m ≡ numbered label n
+    → m ≡ n
 numbered-one label m n hm hn e = decimal-one m n hm hn (append_cancel_left label (decimal m) (decimal n) e)
 
 numbered-onto : (label : List ℕ) (m n : ℕ) (r s : List ℕ) → IsPrintable m → IsPrintable n

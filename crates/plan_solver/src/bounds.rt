@@ -5,11 +5,11 @@ ghost use Rattle.game_model.specs.Query.{states};
 ghost use Rattle.predecessors.specs.Lists.{ArePredecessors};
 ghost use Rattle.plan_solver.specs.Tables.{IsTableOrNone};
 
-use crate::state_order::{StateOrder, NONE};
 use crate::end_components::{find_end_components, open_components};
 use crate::input::{Input, is_open};
 use crate::lower::lower_component;
 use crate::replies::improve_replies;
+use crate::state_order::{NONE, StateOrder};
 use crate::upper::{Start, upper_component};
 use float_games::UNIT;
 use game_model::{Marks, Question};

@@ -5,9 +5,9 @@ ghost use Rattle.game_model.specs.Game.{choices_of};
 ghost use Rattle.game_model.specs.Query.{states};
 ghost use Rattle.components.specs.Division.{states_of};
 
-use crate::state_order::NONE;
 use crate::input::{Input, is_open};
 use crate::lower::note;
+use crate::state_order::NONE;
 use components::Components;
 use game_model::{Marks, Question, Side};
 use game_outside::OutOfMemory;

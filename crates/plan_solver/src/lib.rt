@@ -11,13 +11,13 @@
 //! clock, so the same question gives the same tables on every machine.
 #![tactic(auto)]
 
-mod state_order;
 mod bounds;
 mod edges;
 mod end_components;
 mod input;
 mod lower;
 mod replies;
+mod state_order;
 mod upper;
 mod weights;
 

@@ -3,12 +3,12 @@
 ghost use Rattle.std.specs.Prelude.{◌≡◌, ◌+◌, ◌<◌, length};
 ghost use Rattle.game_model.specs.Query.{states};
 
-use crate::state_order::NONE;
 use crate::edges::{add_edges, draft_of};
 use crate::end_components::EndComponents;
 use crate::input::Input;
 use crate::lower::{clear_nodes, note, note_value, numbers, place_nodes};
 use crate::replies::is_played;
+use crate::state_order::NONE;
 use float_games::{Bound, Draft, FloatGame};
 use game_model::{Question, Side};
 use game_outside::OutOfMemory;

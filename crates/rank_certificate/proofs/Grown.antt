@@ -18,7 +18,8 @@ use Rattle.rank_certificate.proofs.Carried.{next-parts}
 
 -- where each state is apart or has a rank, the next layer begins
 module _ (q : Query) (value : ℕ → ℕ) (only : Option (List (Option ℕ))) (level begin : ℕ) (old : List ℕ)
-    (ranks choices : List (Option ℕ)) (order : List ℕ) (h : AreRankLayers q value only level begin old ranks choices order)
+    (ranks choices : List (Option ℕ)) (order : List ℕ)
+    (h : AreRankLayers q value only level begin old ranks choices order)
     (apart : (s : ℕ) → s < states q → IsApart q value only level ranks s) where
   next-full : (s : ℕ) → s < states q → IsCarried q value only (level + 1) s → (o : Option ℕ)
       → slice_index_or ranks s None ≡ o → HasRankWithin ranks (level + 1) s

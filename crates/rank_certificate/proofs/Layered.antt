@@ -153,7 +153,8 @@ module _ (q : Query) (values : List ℕ) (choices : List (Option ℕ)) (ranks : 
               (asked-carries s r inside is Max max first.0 asked).may,
         )
     by-asked k s r inside earlier is all Min min = λ c lc.
-        let asked : MustBeRanked q choices s c = (lc, always-asked (side_at q s) (slice_index_or choices s None) c min) in
+        let asked : MustBeRanked q choices s c =
+        (lc, always-asked (side_at q s) (slice_index_or choices s None) c min) in
         asked-on k s c inside earlier asked (all c asked) (all-carry s r inside is min c lc).may
 
     -- a layer of the choices has states of no greater rank

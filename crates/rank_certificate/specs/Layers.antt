@@ -12,7 +12,8 @@ IsRankable q values choices = (ranks : List ℕ) × Ranked q values choices rank
 
 -- The choice is in range and has to be ranked.
 abbrev pub MustBeRanked : Query → List (Option ℕ) → ℕ → ℕ → Type 0
-MustBeRanked q choices s c = (c < length (choices_of q.game s)) × HasToRank (side_at q s) (slice_index_or choices s None) c
+MustBeRanked q choices s c =
+    (c < length (choices_of q.game s)) × HasToRank (side_at q s) (slice_index_or choices s None) c
 
 -- A successor of the choice has a greater value, or it has an equal one and is one of these states.
 pub record LeadsInto (value : ℕ → ℕ) (among : ℕ → Type 0) (s : ℕ) (choice : Distribution) : Type 0 where

@@ -18,8 +18,8 @@ mod carrying;
 mod check;
 mod choice;
 mod find;
-mod layers;
 pub mod laws;
+mod layers;
 mod table;
 
 pub use check::{RankCause, RankFault, check_ranks};

@@ -12,9 +12,9 @@ ghost use Rattle.reports.specs.Nested.{IsAnswerable, IsNestedReport, inside_text
 ghost use Rattle.output.specs.Printed.{line_of, status_of};
 ghost use Rattle.output.specs.Status.{IsAnswer};
 
-use inputs::Loaded;
 use formula_truth::Way;
 use game_outside::{Gate, OutOfMemory};
+use inputs::Loaded;
 use nested_truth::{Nested, nested};
 use output::{Answer, report_of};
 use plan_text::append;

@@ -8,8 +8,8 @@ ghost use Rattle.predecessors.specs.Marks.{IsMarked};
 ghost use Rattle.round_workers.specs.Share.{IsSwept, most_workers};
 ghost use Rattle.round_workers.specs.inside.WorkerRanges.{IsWorkerRange, AreHalves};
 
-use crate::worker_range::WorkerRange;
 use crate::sweep::{Rounded, Task, meet, sweep};
+use crate::worker_range::WorkerRange;
 use game_outside::Gate;
 use predecessors::Predecessors;
 use std::thread::{Threads, join};

@@ -8,12 +8,12 @@
 //! which worker raised what, or that two of them run at the same time.
 #![tactic(auto)]
 
-mod worker_range;
 mod fork;
 pub mod laws;
 mod marks;
 mod share;
 mod sweep;
+mod worker_range;
 
 pub use fork::round;
 pub use marks::next_mark;

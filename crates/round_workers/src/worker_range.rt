@@ -6,8 +6,8 @@ ghost use Rattle.round_workers.specs.Share.{most_workers};
 use crate::share::first_state;
 use game_model::Game;
 
-/// A worker range is a row of the `workers` of a round: from `first` up to and not including `last`. Their states go from `low`
-/// up to and not including `high`.
+/// A worker range is a row of the `workers` of a round: from `first` up to and not including `last`. Their states go
+/// from `low` up to and not including `high`.
 #[derive(Clone, Copy)]
 pub struct WorkerRange {
     pub workers: u32,

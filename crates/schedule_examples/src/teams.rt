@@ -30,7 +30,13 @@ fn teams_agree<R: Threads + Sync>(
     let zero = zero_set(alloc, question)?;
     let alone = guess_by(&Alone {}, alloc, question, &zero, lower)?;
     for workers in [1, 2, 3, 7] {
-        let found = guess_by(&ParallelSweep { rt, workers }, alloc, question, &zero, lower)?;
+        let found = guess_by(
+            &ParallelSweep { rt, workers },
+            alloc,
+            question,
+            &zero,
+            lower,
+        )?;
         same(
             workers,
             (found.0.as_slice(), found.1),

@@ -177,7 +177,8 @@ module _ (q : Query) (posed : IsQuery q) (marks : List Bool) (sure : AreAlmostSu
         let attracted : attracts Max (gone_excluded gone) (layer q gone last.0) (choices_of q.game s) ≡ true =
         sym (ap (λ p. attracts p (gone_excluded gone) (layer q gone last.0) (choices_of q.game s)) side) ∙ last.2 in
         let one =
-        any-place (serves (gone_excluded gone) (layer q gone last.0)) (choices_of q.game s) no_distribution attracted in (
+        any-place (serves (gone_excluded gone) (layer q gone last.0))
+        (choices_of q.game s) no_distribution attracted in (
           one.0,
           one.1,
           nears s last.0 last.1 (choice_of q.game s one.0)

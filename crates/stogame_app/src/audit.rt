@@ -8,9 +8,9 @@ ghost use Rattle.inputs.specs.Posed.{HasSizes, reading_of};
 ghost use Rattle.inputs.specs.Questions.{Reads};
 ghost use Rattle.stogame_app.specs.inside.Answers.{IsAnswered};
 
-use inputs::{End, Loaded, Paths, load_certificate, load_model, pose_loaded};
 use command_words::AuditWords;
 use game_outside::Shelf;
+use inputs::{End, Loaded, Paths, load_certificate, load_model, pose_loaded};
 use output::Answer;
 use reports::audit_report;
 use std::alloc::Global;

@@ -7,8 +7,8 @@ ghost use Rattle.stogame_app.specs.Status.{refused_status};
 ghost use Rattle.output.specs.Status.{IsAnswer};
 ghost use Rattle.stogame_app.specs.Run.{AnswersWords, IsEnding, RefusesWords};
 
-use inputs::End;
 use game_outside::{Sink, write_all};
+use inputs::End;
 use output::{Answer, Refusal, Status, Text, refusal_line, usage_line};
 use std::alloc::Global;
 

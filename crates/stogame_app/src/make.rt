@@ -6,9 +6,9 @@ ghost use Rattle.command_words.specs.Words.{AreCommand, IsMakeInRange, OfMake, m
 ghost use Rattle.output.specs.Status.{IsAnswer};
 ghost use Rattle.stogame_app.specs.Reports.{IsReportOfWords};
 
-use inputs::End;
 use command_words::MakeWords;
 use game_outside::Gate;
+use inputs::End;
 use output::Answer;
 use reports::drawn_report;
 use std::alloc::Global;

@@ -19,12 +19,12 @@ ghost use Rattle.stogame_app.specs.Commands.{solve_paths};
 ghost use Rattle.stogame_app.specs.inside.Posed.{IsReportable};
 ghost use Rattle.stogame_app.specs.Reports.{IsReportOfWords, Solves};
 
-use inputs::{End, Loaded, Paths, Problem, load_model, load_values, pose_loaded};
 use command_words::SolveWords;
 use formula_reader::Formula;
 use formula_reader::laws::formulas_inside_are_few;
 use formula_truth::Way;
 use game_outside::{Gate, OutOfMemory, Shelf};
+use inputs::{End, Loaded, Paths, Problem, load_model, load_values, pose_loaded};
 use output::Answer;
 use reports::{nested_report, next_report, solved_report, within_report};
 use rpatl_syntax::laws::formulas_of_texts_are_spellable;

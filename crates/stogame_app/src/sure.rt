@@ -8,9 +8,9 @@ ghost use Rattle.stogame_app.specs.Status.{sure_status};
 ghost use Rattle.output.specs.Status.{IsAnswer};
 ghost use Rattle.stogame_app.specs.inside.Answers.{IsAnswered, IsMadeOf};
 
-use inputs::{End, Loaded, Paths, load_model, pose_loaded};
 use command_words::AskedWords;
 use game_outside::Shelf;
+use inputs::{End, Loaded, Paths, load_model, pose_loaded};
 use output::{Answer, Status};
 use reports::sure_report;
 use std::alloc::Global;

@@ -15,10 +15,10 @@
 #![tactic(auto)]
 
 mod exact;
-mod repair;
-mod rounding;
 mod input;
 mod margins;
+mod repair;
+mod rounding;
 mod table;
 
 pub use exact::{Entry, single_entry};

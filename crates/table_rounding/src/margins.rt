@@ -4,8 +4,8 @@ ghost use Rattle.std.specs.Prelude.{◌≡◌, ◌<◌, IfOk, length, vec_len};
 ghost use Rattle.game_model.specs.Query.{states};
 ghost use Rattle.float_games.specs.Nodes.{nodes_of};
 
-use crate::rounding::{Effort, try_values};
 use crate::input::Input;
+use crate::rounding::{Effort, try_values};
 use crate::table::UnitTable;
 use float_games::Bound;
 use game_model::{Side, UNIT};
@@ -143,9 +143,7 @@ fn bold_effort(input: &Input<'_, '_>) -> Effort {
 /// Returns the effort of other tries.
 fn full_effort(input: &Input<'_, '_>) -> Effort {
     Effort {
-        looks: sweep_work(input)
-            .saturating_mul(40)
-            .saturating_add(33_000),
+        looks: sweep_work(input).saturating_mul(40).saturating_add(33_000),
         is_hasty: false,
     }
 }
@@ -198,11 +196,7 @@ fn try_slope(
 }
 
 /// Returns how far each value can be moved away.
-fn rooms_of(
-    alloc: Global,
-    input: &Input<'_, '_>,
-    values: &[f64],
-) -> Result<Vec<f64>, OutOfMemory>
+fn rooms_of(alloc: Global, input: &Input<'_, '_>, values: &[f64]) -> Result<Vec<f64>, OutOfMemory>
     ensures { IfOk result (λ list. vec_len list ≡ length values.now) }
 {
     let mut list = values.to_vec(alloc)?;
@@ -344,11 +338,7 @@ fn least_step(input: &Input<'_, '_>) -> f64 {
 
 /// Returns how many times entries are brought nearer. These are few if a try takes long.
 fn halves(input: &Input<'_, '_>) -> u32 {
-    if input.game.nodes() < 100_000 {
-        14
-    } else {
-        2
-    }
+    if input.game.nodes() < 100_000 { 14 } else { 2 }
 }
 
 /// Returns the greatest size of an entry.

@@ -4,8 +4,8 @@ ghost use Rattle.std.specs.Prelude.{◌≡◌, ◌<◌, IfOk, length, vec_len};
 ghost use Rattle.game_model.specs.Query.{states};
 ghost use Rattle.float_games.specs.Nodes.{nodes_of};
 
-use crate::repair::repair;
 use crate::input::Input;
+use crate::repair::repair;
 use crate::table::UnitTable;
 use float_games::{Bound, whole_units};
 use game_outside::OutOfMemory;

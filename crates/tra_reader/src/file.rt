@@ -11,8 +11,8 @@ ghost use Rattle.tra_reader.specs.inside.Ordered.{text_fault};
 ghost use Rattle.tra_reader.specs.FileEnds.{is_out_of_memory, in_order_of, without_want_of};
 
 use crate::any_order::UnorderedReader;
-use crate::stop::Stop;
 use crate::ordered::OrderedLines;
+use crate::stop::Stop;
 use distributions::ChoiceFault;
 use game_model::Game;
 use game_outside::{FileEnd, Shelf, read_lines_from};

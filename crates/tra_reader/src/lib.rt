@@ -19,15 +19,15 @@ mod actions;
 mod any_order;
 mod body;
 mod build;
+mod build_state;
 mod file;
+mod finished_choices;
 mod game_in_order;
-mod stop;
 mod line_actions;
 mod order;
 mod ordered;
-mod build_state;
 mod reader;
-mod finished_choices;
+mod stop;
 
 pub use file::read_tra_from;
 pub use reader::read_tra;

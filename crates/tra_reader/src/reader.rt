@@ -7,8 +7,8 @@ ghost use Rattle.transition_lines.specs.Faults.{IsOutOfMemory};
 ghost use Rattle.transition_lines.specs.Text.{game_of};
 
 use crate::any_order::UnorderedReader;
-use crate::stop::Stop;
 use crate::ordered::OrderedLines;
+use crate::stop::Stop;
 use game_model::Game;
 use std::alloc::Global;
 use text_lines::read_lines;

@@ -57,7 +57,8 @@ module _ (q : Query) (replies : List (Option ℕ)) (class part : List ℕ) (h : 
         ]
       ]
 
-  kept-number : (s : ℕ) (c : ℕ) → s < states q → IsInternal q replies class s c → slice_index part s ≡ slice_index class s
+  kept-number : (s : ℕ) (c : ℕ) → s < states q → IsInternal q replies class s c
+      → slice_index part s ≡ slice_index class s
   kept-number s c ls internal = elim (k.each s ls) [
     | inl lost ↦ absurd (lost.1 c internal)
     | inr kept ↦ kept.0

@@ -23,18 +23,22 @@ use Rattle.trap_sets.proofs.Walking.{reach-join}
 use Rattle.trap_sets.proofs.Zeros.{within}
 
 module _ (internal : Internal)
-    (h : KeepsEnds internal.mdp.question.now internal.mdp.replies.now internal.part.now) (rooted : IsRooted internal.part.now) where
+    (h : KeepsEnds internal.mdp.question.now internal.mdp.replies.now internal.part.now)
+    (rooted : IsRooted internal.part.now) where
   -- no end component crosses the marks of a search
   uncrossed : (way : Way) (marks : List Bool) → AreReached internal way marks → (member : ℕ → Bool)
-      (listed : ℕ → ℕ → Bool) → IsEndComponent internal.mdp.question.now internal.mdp.replies.now member listed → (t u : ℕ)
+      (listed : ℕ → ℕ → Bool) → IsEndComponent internal.mdp.question.now internal.mdp.replies.now member listed
+      → (t u : ℕ)
       → member t ≡ true → member u ≡ true → slice_index_or marks t false ≡ true → slice_index_or marks u false ≡ true
   uncrossed On marks k member listed component t u in' in'' is =
       let forth : Reach (IsMove internal.mdp.question.now listed) t u = component.joined t u in' in'' in
-      closed-on internal marks k forth.0 t u (walk-internal internal.mdp.question.now internal.mdp.replies.now internal.part.now h
+      closed-on internal marks k forth.0 t u
+      (walk-internal internal.mdp.question.now internal.mdp.replies.now internal.part.now h
       member listed component forth.0 t u in' forth.1) is
   uncrossed Back marks k member listed component t u in' in'' is =
       let around : Reach (IsMove internal.mdp.question.now listed) u t = component.joined u t in'' in' in
-      closed-back internal marks k around.0 u t (walk-internal internal.mdp.question.now internal.mdp.replies.now internal.part.now h
+      closed-back internal marks k around.0 u t
+      (walk-internal internal.mdp.question.now internal.mdp.replies.now internal.part.now h
       member listed component around.0 u t in'' around.1) is
 
   -- where a search does not come to a state, its marks break up the part of the state

@@ -4,8 +4,8 @@ use Rattle.game_model.specs.declared.game.Side.TheVariants.{Min}
 use Rattle.game_model.specs.Game.{choices_of, choice_of, destinations}
 use Rattle.game_model.specs.Query.{Query, side_at}
 
--- A choice is one of the MDP of the replies if it is the reply of a state of the minimiser, or any choice of a state of the
--- maximiser.
+-- A choice is one of the MDP of the replies if it is the reply of a state of the minimiser, or any choice of a state of
+-- the maximiser.
 pub record IsReplyMdp (q : Query) (replies : List (Option ℕ)) (s c : ℕ) : Type 0 where
   pub inside : c < length (choices_of q.game s)
   pub replied : side_at q s ≡ Min → slice_index_or replies s None ≡ Some c

@@ -6,9 +6,9 @@ ghost use Rattle.trap_sets.specs.inside.OfReplyMdp.{states_in, KeepsEndsOf, AreJ
 ghost use Rattle.trap_sets.specs.inside.Parts.{IsRooted};
 ghost use Rattle.trap_sets.specs.inside.Roots.{roots};
 
-use crate::reply_mdp::ReplyMdp;
 use crate::internal::Internal;
 use crate::reach::{Way, reached};
+use crate::reply_mdp::ReplyMdp;
 use game_outside::OutOfMemory;
 use std::alloc::Global;
 

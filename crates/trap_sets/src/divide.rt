@@ -6,8 +6,8 @@ ghost use Rattle.trap_sets.specs.inside.OfReplyMdp.{KeepsEndsOf};
 ghost use Rattle.trap_sets.specs.inside.Parts.{IsRooted};
 ghost use Rattle.trap_sets.specs.inside.Naming.{IsNaming};
 
-use crate::reply_mdp::ReplyMdp;
 use crate::internal::Internal;
+use crate::reply_mdp::ReplyMdp;
 use game_outside::OutOfMemory;
 use std::alloc::Global;
 

@@ -15,8 +15,8 @@ use game_outside::OutOfMemory;
 use predecessors::ChoiceFlags;
 use std::alloc::Global;
 
-/// The parts of an MDP of the replies come with a flag for each choice, in the order of the game, that says whether it is
-/// internal.
+/// The parts of an MDP of the replies come with a flag for each choice, in the order of the game, that says whether it
+/// is internal.
 #[derive(Drop)]
 pub struct Internal<'a> {
     pub mdp: ReplyMdp<'a>,
@@ -32,7 +32,11 @@ impl<'a> Internal<'a> {
     ghost use Rattle.trap_sets.specs.inside.OfInternal.{states_of, IsInternalOf};
 
     /// Finds the internal choices of these parts. Each choice is tested once.
-    pub fn of_parts(alloc: Global, mdp: &ReplyMdp<'a>, part: &'a [u32]) -> Result<Internal<'a>, OutOfMemory>
+    pub fn of_parts(
+        alloc: Global,
+        mdp: &ReplyMdp<'a>,
+        part: &'a [u32],
+    ) -> Result<Internal<'a>, OutOfMemory>
         requires { length part.now ≡ states_in mdp.now }
         ensures mdp { IfOk result (λ internal. internal.mdp ≡ mdp.now) }
         ensures part { IfOk result (λ internal. internal.part.now ≡ part.now) }

@@ -20,14 +20,14 @@
 //!
 //! 1. Every second round, it divides each part into the strongly connected components of its internal choices
 //!    (`components`). Most often the third step breaks off a few states, and their removal is all that is left to do.
-//! 2. It takes their part from the states that have no internal choice, and from those that have none left then. This is
-//!    done once before the first round, too.
-//! 3. It searches from the root of each part, by the choices that are internal then, back and on. If one of the searches
-//!    misses a state of the part, the part is broken up there, and another round follows (Fleischer, Hendrickson and
-//!    Pinar, On identifying strongly connected components in parallel, 2000).
+//! 2. It takes their part from the states that have no internal choice, and from those that have none left then. This
+//!    is done once before the first round, too.
+//! 3. It searches from the root of each part, by the choices that are internal then, back and on. If one of the
+//!    searches misses a state of the part, the part is broken up there, and another round follows (Fleischer,
+//!    Hendrickson and Pinar, On identifying strongly connected components in parallel, 2000).
 //!
-//! In the end the states of each part reach each other, and a state without an internal choice is the only one in its part
-//! (Baier and Katoen, Principles of Model Checking, 2008, algorithm 47).
+//! In the end the states of each part reach each other, and a state without an internal choice is the only one in its
+//! part (Baier and Katoen, Principles of Model Checking, 2008, algorithm 47).
 //!
 //! No proof says that the first two steps find all that they search for; it says that they cut no end component. The
 //! third step is exact, and decides. A round takes time linear in the states, choices and edges. There are as many
@@ -38,12 +38,12 @@
 mod arena;
 mod breaking;
 mod choices;
-mod reply_mdp;
 mod divide;
 mod internal;
 mod lower;
 mod numbers;
 mod reach;
+mod reply_mdp;
 mod rounds;
 mod trim;
 

@@ -136,7 +136,8 @@ impl Search {
         requires ordered { IsOrder self.old.marks.items self.old.order.items }
         requires many { length self.old.marks.items ≡ states_of internal.now }
         requires state { state < states_of internal.now }
-        ensures more { OnOk result (IsMore (λ s. IsStepOf internal.now s state) self.old.marks.items self.old.order.items
+        ensures more { OnOk result
+            (IsMore (λ s. IsStepOf internal.now s state) self.old.marks.items self.old.order.items
             self.new.marks.items self.new.order.items) }
         ensures passed { OnOk result ((s : ℕ) → IsStepOf internal.now s state
             → slice_index_or self.new.marks.items s false ≡ true) }

@@ -8,7 +8,8 @@ use crate::choices::stays;
 use game_model::{Question, Side};
 use predecessors::Predecessors;
 
-/// In the MDP of the replies each state of the minimiser has only its reply. It comes with the moves that lead to each state.
+/// In the MDP of the replies each state of the minimiser has only its reply. It comes with the moves that lead to each
+/// state.
 #[derive(Clone, Copy)]
 pub struct ReplyMdp<'a> {
     pub question: &'a Question<'a>,
@@ -40,8 +41,8 @@ impl ReplyMdp<'_> {
         }
     }
 
-    /// Returns whether a choice is internal: it is one of the MDP of the replies, at a state with a part, and stays in this
-    /// part.
+    /// Returns whether a choice is internal: it is one of the MDP of the replies, at a state with a part, and stays in
+    /// this part.
     pub(crate) fn is_internal(&self, part: &[u32], state: u32, choice: u32) -> bool
         requires state { state < states_in self.now }
         requires choice { choice < length (choices_of self.now.question.now.game state) }

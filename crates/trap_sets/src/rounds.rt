@@ -7,8 +7,8 @@ ghost use Rattle.trap_sets.specs.inside.Parts.{IsRooted};
 ghost use Rattle.trap_sets.specs.inside.Settled.{IsOpening};
 
 use crate::breaking::break_up;
-use crate::reply_mdp::ReplyMdp;
 use crate::divide::{divided, renamed};
+use crate::reply_mdp::ReplyMdp;
 use crate::trim::trim;
 use game_model::Question;
 use game_outside::OutOfMemory;

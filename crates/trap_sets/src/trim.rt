@@ -8,9 +8,9 @@ use game_outside::OutOfMemory;
 use predecessors::Move;
 use std::alloc::Global;
 
-/// Takes its part from each state that has no internal choice, and from each that has none left then, and so on. A state
-/// waits for one choice at a time, so each choice is tested three times at most. The contract does not say that all
-/// such states are found. One that is missed goes later.
+/// Takes its part from each state that has no internal choice, and from each that has none left then, and so on. A
+/// state waits for one choice at a time, so each choice is tested three times at most. The contract does not say that
+/// all such states are found. One that is missed goes later.
 pub fn trim(alloc: Global, mdp: &ReplyMdp<'_>, part: &mut [u32]) -> Result<(), OutOfMemory>
     requires keeps { KeepsEndsOf mdp.now part.old }
     ensures keeps { OnOk result (KeepsEndsOf mdp.now part.new) }

@@ -4,8 +4,8 @@ use Rattle.game_model.specs.Game.{Distribution}
 use Rattle.round_workers.specs.declared.worker_range.WorkerRange.{WorkerRange}
 use Rattle.round_workers.specs.Share.{BeginsBlock}
 
--- The states of a worker range begin where those of its first worker do, and end where those of the worker after its last one
--- begin.
+-- The states of a worker range begin where those of its first worker do, and end where those of the worker after its
+-- last one begin.
 pub record IsWorkerRange (game : List (List Distribution)) (crew : WorkerRange) : Type 0 where
   pub begins : BeginsBlock game crew.workers crew.first crew.low
   pub ends : BeginsBlock game crew.workers crew.last crew.high

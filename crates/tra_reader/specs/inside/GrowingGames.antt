@@ -183,8 +183,8 @@ IsAsStated stated read (Some fault) = (game : Result (List (List Distribution)) 
 
 -- 3. These definitions are about the game.
 
--- A contract sees this of a game under way: the number of states, the finished choices, and the parts of the choice under
--- way.
+-- A contract sees this of a game under way: the number of states, the finished choices, and the parts of the choice
+-- under way.
 pub record Growing : Type 0 where
   pub states : ℕ
   pub whole : FinishedChoices

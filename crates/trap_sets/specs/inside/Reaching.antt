@@ -26,7 +26,8 @@ pub record IsMore (P : ℕ → Type 0) (marks : List Bool) (order : List ℕ) (m
 -- The roots are marked, and a search comes to each marked state from the root of its part.
 pub record IsReached (internal : Internal) (way : Way) (marks : List Bool) : Type 0 where
   pub many : length marks ≡ states_of internal
-  pub roots : (s : ℕ) → s < states_of internal → slice_index internal.part.now s ≡ s + 1 → slice_index_or marks s false ≡ true
+  pub roots : (s : ℕ) → s < states_of internal → slice_index internal.part.now s ≡ s + 1
+      → slice_index_or marks s false ≡ true
   pub met : (s : ℕ) → slice_index_or marks s false ≡ true → Reach (Passes internal way) (root_of internal.part.now s) s
 
 -- In addition, the search has passed on from this many states, the first ones of the order.

@@ -34,4 +34,5 @@ loop-place-preserved t c =
 
 pub unreachable-requires : goal.unreachable-requires
 unreachable-requires t c = not-all-refused c.args.question.now c.args.zero.now (slice_index c.args.lower.now)
-    c.invariant.ensures c.requires.zero (c.loop-place.invariant.refused last_place (omega (arith, c.loop-place-test.false)))
+    c.invariant.ensures c.requires.zero
+    (c.loop-place.invariant.refused last_place (omega (arith, c.loop-place-test.false)))

@@ -7,7 +7,8 @@ use Rattle.almost_sure.proofs.Going.{goal-apart, IsGone-grown}
 use Rattle.almost_sure.proofs.outer.gone_after.Goals as goal
 
 pub other_side-requires-clause-apart : goal.other_side-requires-clause-apart
-other_side-requires-clause-apart c = goal-apart c.args.question.now c.args.gone.items c.invariant.ensures c.requires.gone
+other_side-requires-clause-apart c =
+    goal-apart c.args.question.now c.args.gone.items c.invariant.ensures c.requires.gone
 
 pub returns-clause-gone : goal.returns-clause-gone
 returns-clause-gone c = IfOk-weaker c.attractor_of.result _ _ (λ out drawn.

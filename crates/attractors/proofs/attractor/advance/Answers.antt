@@ -19,7 +19,8 @@ returns-then-end-place g c =
           (moves_into c.args.predecessors.now list) new.members.items new.next_choice.items new.order.items)
           (sym (ap (λ n. take n new.order.items) end
           ∙ take-longer old.order.items new.order.items c.in_ok-test_all.ensures.longer))
-          (IsAttractorSearch-tested q excluded c.args.predecessors.now old.members.items new.members.items new.next_choice.items
+          (IsAttractorSearch-tested q excluded c.args.predecessors.now old.members.items new.members.items
+          new.next_choice.items
           old.order.items new.order.items c.requires.lists c.requires.grown.many c.requires.grown.ordered
           c.in_ok-test_all.ensures.larger
           c.in_ok-test_all.ensures.tested c.in_ok-test_all.ensures.grows);

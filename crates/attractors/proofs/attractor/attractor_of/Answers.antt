@@ -10,7 +10,8 @@ returns g c =
     let q = c.args.question.now in
     let excluded : ExcludedSets = g.S.Excluded.excluded c.args.excluded.now q in
     let search = c.loop-place.search in
-    IsAttractor-grown q excluded c.args.predecessors.now search.members.items search.next_choice.items search.order.items
+    IsAttractor-grown q excluded c.args.predecessors.now search.members.items search.next_choice.items
+    search.order.items
     c.invariant.ensures c.requires.lists
     (subst (λ (list : List ℕ). IsAttractorSearch q excluded
     (moves_into c.args.predecessors.now list) search.members.items search.next_choice.items search.order.items)

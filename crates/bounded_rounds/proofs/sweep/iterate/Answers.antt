@@ -29,7 +29,8 @@ returns-then-not-step-clause-sweep g c =
     let stepped = subst (λ (t : List Bounds). IsStepped q t 0 (states q) c.step.new.next c.step.result)
     c.deref.ensures.value c.step.ensures in
     IsSweep-rests q (slice_index (lowers c.args.table.items)) c.loop-done._done c.args.steps c.loop-done.table.items
-    c.step.new.next c.step.result c.invariant.ensures (omega arith) c.loop-done.invariant.sweep stepped c.if-not-step.true
+    c.step.new.next c.step.result c.invariant.ensures
+    (omega arith) c.loop-done.invariant.sweep stepped c.if-not-step.true
 
 pub loop-done-preserved : goal.loop-done-preserved
 loop-done-preserved g c =

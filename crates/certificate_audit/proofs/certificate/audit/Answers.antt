@@ -25,4 +25,5 @@ returns-clause-accepted c = record {
 }
 
 pub returns-clause-sound : goal.returns-clause-sound
-returns-clause-sound c = sound c.args.question.now c.in_ok-plan.plan c.invariant.ensures c.in_ok-check_plan.ensures.passes
+returns-clause-sound c =
+    sound c.args.question.now c.in_ok-plan.plan c.invariant.ensures c.in_ok-check_plan.ensures.passes

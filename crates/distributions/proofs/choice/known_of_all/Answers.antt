@@ -6,4 +6,5 @@ use Rattle.distributions.proofs.choice.known_of_all.Goals as goal
 pub loop-part-preserved : goal.loop-part-preserved
 loop-part-preserved c =
     let P : Part → Type 0 = λ part. IsFraction part.share in
-    AllWithin-more P _ 0 _ c.loop-part.invariant (at_read _ P _ _ c.loop-part-test.true c.part-item.is c.invariant.ensures)
+    AllWithin-more P _ 0 _ c.loop-part.invariant
+    (at_read _ P _ _ c.loop-part-test.true c.part-item.is c.invariant.ensures)

@@ -41,7 +41,8 @@ middle_sums-requires-clause-small c =
 pub returns-then-total-le-MOST_NARROW : goal.returns-then-total-le-MOST_NARROW
 returns-then-total-le-MOST_NARROW c =
     rw (c.from.ensures, c.from-then-total-le-MOST_NARROW.ensures)
-    (AreSums-of-edges (c.invariant.ensures.distributions c.args.choice c.requires.choice) c.successors-successors.ensures
+    (AreSums-of-edges
+    (c.invariant.ensures.distributions c.args.choice c.requires.choice) c.successors-successors.ensures
     c.narrow_weights-weights.ensures c.narrow_sums-lower.ensures)
 
 pub returns : goal.returns

@@ -10,5 +10,6 @@ returns c = record {
   rises = λ r s inside. subst (λ (j : ℕ). down_steps c.args.question.now r s ≤ down_steps c.args.question.now j s)
       (sym (add-one r)) (down_steps-rises c.args.question.now (AreChoicesOf-choices_of _ c.invariant.ensures.game) r s);
   below = λ r s. down_steps-below c.args.question.now (AreChoicesOf-choices_of _ c.invariant.ensures.game) r s;
-  near = λ r s. omega (arith, down_steps-near c.args.question.now (AreChoicesOf-choices_of _ c.invariant.ensures.game) r s);
+  near = λ r s. omega
+      (arith, down_steps-near c.args.question.now (AreChoicesOf-choices_of _ c.invariant.ensures.game) r s);
 }

@@ -7,5 +7,6 @@ returns c = record {
   reached = λ a b s inside bound.
       IsLow-reaches c.args.question.now (slice_index c.args.table.now) a b s c.requires inside bound;
   exceeded = λ a b s inside bound.
-      IsLow-exceeds c.args.question.now (slice_index c.args.table.now) a b s c.invariant.ensures c.requires inside bound;
+      IsLow-exceeds c.args.question.now
+      (slice_index c.args.table.now) a b s c.invariant.ensures c.requires inside bound;
 }

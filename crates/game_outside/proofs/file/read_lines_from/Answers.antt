@@ -1,7 +1,8 @@
 use Rattle.std.proofs.Common.{rules, ◌≡◌, ◌∷◌, ◌++◌, [], Ok, Err, sym, ap, subst, refl, ◌∙◌}
 use Rattle.text_lines.specs.Text.{lines_of, significant}
 use Rattle.text_lines.specs.Blank.{IsRightFor}
-use Rattle.game_outside.proofs.PartRead.{begins, lines_read, refused_part, all_read, rest_dropped, limit_passed, ends_so, err_is}
+use Rattle.game_outside.proofs.PartRead.{begins, lines_read, refused_part, all_read, rest_dropped, limit_passed}
+use Rattle.game_outside.proofs.PartRead.{ends_so, err_is}
 use Rattle.game_outside.proofs.file.read_lines_from.Goals as goal
 
 pub loop-feeder-init : goal.loop-feeder-init
@@ -39,7 +40,8 @@ returns-in_err-finish-clause-reads g c =
     (λ lines answer. g.R.LineReader.answers c.args.reader 1 (significant lines) answer)
     (g.H.Shelf.rest c.loop-feeder.shelf) (g.H.Shelf.rest c.next_line.new.shelf) c.loop-feeder.text
     c.next_line.new.self c.push_line.new.self
-    (IsRightFor g.R.LineReader.answers c.loop-feeder.feeder.reader c.loop-feeder.feeder.next c.loop-feeder.feeder.blanks)
+    (IsRightFor g.R.LineReader.answers c.loop-feeder.feeder.reader c.loop-feeder.feeder.next
+    c.loop-feeder.feeder.blanks)
     c.next_line.new.line.items c.deref.result.now (Err c.in-Err.fault) c.loop-feeder.invariant.part
     (c.next_line.ensures.line (search rules)) c.push_line.ensures.same c.deref.ensures.value c.in-Err.ensures.fault)
     (search rules) (search rules))
@@ -55,7 +57,8 @@ returns-in-Err-clause-reads g c =
     (λ lines answer. g.R.LineReader.answers c.args.reader 1 (significant lines) answer)
     (g.H.Shelf.rest c.loop-feeder.shelf) (g.H.Shelf.rest c.next_line.new.shelf) c.loop-feeder.text
     c.next_line.new.self c.push_line.new.self
-    (IsRightFor g.R.LineReader.answers c.loop-feeder.feeder.reader c.loop-feeder.feeder.next c.loop-feeder.feeder.blanks)
+    (IsRightFor g.R.LineReader.answers c.loop-feeder.feeder.reader c.loop-feeder.feeder.next
+    c.loop-feeder.feeder.blanks)
     c.next_line.new.line.items c.deref.result.now (Err c.in-Err.fault) c.loop-feeder.invariant.part
     (c.next_line.ensures.line (search rules)) c.push_line.ensures.same c.deref.ensures.value c.in-Err.ensures.fault)
     c.in_ok-finish.ensures.dropped (λ over. ap g.H.Shelf.rest (c.finish.ensures.text.ended over))
@@ -69,8 +72,10 @@ loop-feeder-preserved g c = record {
       (λ lines answer. g.R.LineReader.answers c.args.reader 1 (significant lines) answer)
       (g.H.Shelf.rest c.loop-feeder.shelf) (g.H.Shelf.rest c.next_line.new.shelf) c.loop-feeder.text
       c.next_line.new.self c.push_line.new.self
-      (IsRightFor g.R.LineReader.answers c.loop-feeder.feeder.reader c.loop-feeder.feeder.next c.loop-feeder.feeder.blanks)
-      (IsRightFor g.R.LineReader.answers c.push_line.new.feeder.reader c.push_line.new.feeder.next c.push_line.new.feeder.blanks)
+      (IsRightFor g.R.LineReader.answers c.loop-feeder.feeder.reader c.loop-feeder.feeder.next
+      c.loop-feeder.feeder.blanks)
+      (IsRightFor g.R.LineReader.answers c.push_line.new.feeder.reader c.push_line.new.feeder.next
+      c.push_line.new.feeder.blanks)
       c.next_line.new.line.items c.loop-feeder.invariant.part
       (c.next_line.ensures.line (search rules)) c.push_line.ensures.same
       (λ behind answer still.
@@ -91,7 +96,8 @@ returns-in-Ok-clause-reads g c =
     all_read (g.H.Shelf.held c.args.shelf.now) c.args.name.now
     (λ lines answer. g.R.LineReader.answers c.args.reader 1 (significant lines) answer)
     (g.H.Shelf.rest c.loop-feeder.shelf) (g.H.Shelf.rest c.next_line.new.shelf) c.loop-feeder.text c.next_line.new.self
-    (IsRightFor g.R.LineReader.answers c.loop-feeder.feeder.reader c.loop-feeder.feeder.next c.loop-feeder.feeder.blanks)
+    (IsRightFor g.R.LineReader.answers c.loop-feeder.feeder.reader c.loop-feeder.feeder.next
+    c.loop-feeder.feeder.blanks)
     c.next_line.new.line.items c.args.limit (Ok c.in-Ok.made) c.loop-feeder.invariant.part
     (c.next_line.ensures.end (search rules))
     (λ over. ap g.H.Shelf.rest (c.next_line.ensures.text.ended over)) c.loop-feeder.invariant.within c.in-Ok.ensures
@@ -101,7 +107,9 @@ returns-clause-reads g c =
     all_read (g.H.Shelf.held c.args.shelf.now) c.args.name.now
     (λ lines answer. g.R.LineReader.answers c.args.reader 1 (significant lines) answer)
     (g.H.Shelf.rest c.loop-feeder.shelf) (g.H.Shelf.rest c.next_line.new.shelf) c.loop-feeder.text c.next_line.new.self
-    (IsRightFor g.R.LineReader.answers c.loop-feeder.feeder.reader c.loop-feeder.feeder.next c.loop-feeder.feeder.blanks)
+    (IsRightFor g.R.LineReader.answers c.loop-feeder.feeder.reader c.loop-feeder.feeder.next
+    c.loop-feeder.feeder.blanks)
     c.next_line.new.line.items c.args.limit (Err c.in-Err-end.fault) c.loop-feeder.invariant.part
     (c.next_line.ensures.end (search rules))
-    (λ over. ap g.H.Shelf.rest (c.next_line.ensures.text.ended over)) c.loop-feeder.invariant.within c.in-Err-end.ensures
+    (λ over. ap g.H.Shelf.rest (c.next_line.ensures.text.ended over))
+    c.loop-feeder.invariant.within c.in-Err-end.ensures

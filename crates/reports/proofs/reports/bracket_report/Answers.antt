@@ -27,7 +27,8 @@ returns-clause-report g c =
     let check = check_of c.args.check.now in
     let asked = c.args.check.now.rounds in
     let P : Bound → Type 0 = λ b. IsBracketOfRun q zero b initial asked found in
-    let is_found : IsBracketOfRun q zero bound initial asked found = subst P (ap (λ (t : Tree). t.bound) c.requires.same)
+    let is_found : IsBracketOfRun q zero bound initial asked found =
+    subst P (ap (λ (t : Tree). t.bound) c.requires.same)
     (rw c.deref-initial.ensures.value at c.in_ok-bracketed.ensures.found) in
     let shown = c.in_ok-plan.ensures.shown in
     let lists = c.in_ok-plan.ensures.lists in

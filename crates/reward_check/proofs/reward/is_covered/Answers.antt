@@ -16,7 +16,8 @@ returns-then-entry-reward c = (
       (weighted_sum (slice_index c.args.table.now)
       (choice_of c.args.question.now.game c.args.state c.args.choice).edges) c.reward_of-reward.ensures
       c.if-entry-reward.true
-      (IsChoiceOf-choice_of c.args.question.now.game c.args.state c.args.choice c.invariant.ensures.game c.requires.state
+      (IsChoiceOf-choice_of c.args.question.now.game c.args.state c.args.choice c.invariant.ensures.game
+      c.requires.state
       c.requires.choice).positive most),
 )
 

@@ -7,7 +7,8 @@ loop-line-init g c = record {
   goes_on = λ answer behind.
       let counted = significant (lines_of c.args.text.now) in
       subst (λ reader. g.R.LineReader.answers reader 1 counted answer) c.new-feeder.ensures.reader
-      (subst (λ number. g.R.LineReader.answers c.new-feeder.result.reader number counted answer) c.new-feeder.ensures.next
+      (subst (λ number. g.R.LineReader.answers c.new-feeder.result.reader number counted answer)
+      c.new-feeder.ensures.next
       (behind [] tt (sym c.new-feeder.ensures.blanks)));
   count = search rules;
 }

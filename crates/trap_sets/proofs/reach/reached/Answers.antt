@@ -22,6 +22,7 @@ loop-place-preserved c =
     }
 
 pub returns : goal.returns
-returns c = AreReached-all c.args.internal.now c.args.way c.loop-place.search.marks.items c.loop-place.search.order.items
+returns c = AreReached-all c.args.internal.now c.args.way c.loop-place.search.marks.items
+    c.loop-place.search.order.items
     c.loop-place.place c.loop-place.invariant.reaching
     (omega (arith, c.loop-place-test.false, c.len.ensures, c.loop-place.search.order.ok.0))

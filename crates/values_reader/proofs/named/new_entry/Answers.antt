@@ -8,10 +8,12 @@ pub returns-clause-entry : goal.returns-clause-entry
 returns-clause-entry c =
     let below : c.in-Some.state < c.args.states = omega (arith, c.if-state-from.false, c.from.ensures) in
     new_state-inside c.args.states (marked c.args.named.now)
-    (state_of c.args.line.now) c.in-Some.state false c.in-Some.ensures.state below c.ranges.states.fits c.if-named-state.false
+    (state_of c.args.line.now) c.in-Some.state false c.in-Some.ensures.state below c.ranges.states.fits
+    c.if-named-state.false
 
 pub returns-then-named-state-clause-entry : goal.returns-then-named-state-clause-entry
 returns-then-named-state-clause-entry c =
     let below : c.in-Some.state < c.args.states = omega (arith, c.if-state-from.false, c.from.ensures) in
     new_state-inside c.args.states (marked c.args.named.now)
-    (state_of c.args.line.now) c.in-Some.state true c.in-Some.ensures.state below c.ranges.states.fits c.if-named-state.true
+    (state_of c.args.line.now) c.in-Some.state true c.in-Some.ensures.state below c.ranges.states.fits
+    c.if-named-state.true

@@ -5,7 +5,8 @@ use Rattle.std.proofs.lemmas.List.{get_or_read}
 use Rattle.game_model.specs.Game.{choices_of, choice_of}
 use Rattle.attractors.specs.Attractor.{ExcludedSets, serves, is_attracted}
 use Rattle.attractors.specs.Search.{IsAttractorSearch}
-use Rattle.attractors.proofs.Following.{IsAttractorSearch-noted, IsAttractorSearch-waits, IsAttractorSearch-joins, attracted-greatest}
+use Rattle.attractors.proofs.Following.{IsAttractorSearch-noted, IsAttractorSearch-waits, IsAttractorSearch-joins}
+use Rattle.attractors.proofs.Following.{attracted-greatest}
 use Rattle.attractors.proofs.Following.{attracted-least}
 use Rattle.attractors.proofs.search.AttractorSearch.follow.Goals as goal
 use Rattle.attractors.proofs.search.AttractorSearch.follow.Goals.{then-index-via-then-index}
@@ -21,7 +22,8 @@ returns-then-index-clause-grows g c = λ followed h.
     let old = c.args.self.now in
     let member : c.index.result.now ≡ slice_index_or old.members.items state false = get_or_read old.members.items _ _
     (omega (arith, c.requires.members, c.requires.leads.leads.state)) c.index.ensures false in
-    IsAttractorSearch-noted q excluded followed old.members.items old.next_choice.items old.order.items c.args.step c.requires.leads h
+    IsAttractorSearch-noted q excluded followed old.members.items old.next_choice.items old.order.items c.args.step
+    c.requires.leads h
     (λ out within free. elim c.then-index.branch [
       | then-index-via-then-index w ↦ let is : c.index.result.now ≡ true = w.if-index.true in absurd (cc)
       | then-index-via-else-index+then-excludes_state w ↦
@@ -40,7 +42,8 @@ returns-then-index-step-clause-grows g c = λ followed h.
     let awaits : c.index-in-Min.result.now ≡ slice_index old.next_choice.items c.args.step.state =
     get_or_read old.next_choice.items _ _
     (omega (arith, c.requires.next_choice, c.requires.leads.leads.state)) c.index-in-Min.ensures 0 in
-    IsAttractorSearch-noted q (g.S.Excluded.excluded c.args.excluded.now q) followed old.members.items old.next_choice.items old.order.items
+    IsAttractorSearch-noted q
+    (g.S.Excluded.excluded c.args.excluded.now q) followed old.members.items old.next_choice.items old.order.items
     c.args.step c.requires.leads h (λ out within free. (sym c.in-Min.ensures, λ e. c.if-index-step.true (awaits ∙ e)))
 
 pub returns-then-next-choices_of-clause-grows : goal.returns-then-next-choices_of-clause-grows
@@ -52,7 +55,8 @@ returns-then-next-choices_of-clause-grows g c = λ followed h.
     let next : ℕ = c.first_unserved-next.result in
     let member : c.index.result.now ≡ slice_index_or old.members.items state false = get_or_read old.members.items _ _
     (omega (arith, c.requires.members, c.requires.leads.leads.state)) c.index.ensures false in
-    let awaits : c.index-in-Min.result.now ≡ slice_index old.next_choice.items state = get_or_read old.next_choice.items _ _
+    let awaits : c.index-in-Min.result.now ≡ slice_index old.next_choice.items state =
+    get_or_read old.next_choice.items _ _
     (omega (arith, c.requires.next_choice, c.requires.leads.leads.state)) c.index-in-Min.ensures 0 in
     let count : c.choices_of.result ≡ length (choices_of q.game state) =
     c.choices_of.ensures ∙ ap (λ list. length (choices_of list state)) c.game.ensures in
@@ -74,14 +78,17 @@ returns-clause-grows g c = λ followed h.
     let old = c.args.self.now in
     let member : c.index.result.now ≡ slice_index_or old.members.items state false = get_or_read old.members.items _ _
     (omega (arith, c.requires.members, c.requires.leads.leads.state)) c.index.ensures false in
-    let free : excluded.choices (choice_of q.game state c.args.step.choice) ≡ false = sym c.if-excludes_choice.ensures in
+    let free : excluded.choices (choice_of q.game state c.args.step.choice) ≡ false =
+    sym c.if-excludes_choice.ensures in
     let within : excluded.states state ≡ false = sym c.if-excludes_state.ensures in
     let out : slice_index_or old.members.items state false ≡ false = sym member ∙ c.if-index.false in
     let drawn : is_attracted q excluded old.members.items state ≡ true = elim c.match-side.branch [
-      | in-Max w ↦ attracted-greatest q excluded followed old.members.items old.next_choice.items old.order.items c.args.step
+      | in-Max w ↦ attracted-greatest q excluded followed old.members.items old.next_choice.items old.order.items
+          c.args.step
           c.requires.leads h (sym w.in-Max.ensures) free
       | in-Min+else-index-step+else-next-choices_of w ↦
-          let awaits : w.index-in-Min.result.now ≡ slice_index old.next_choice.items state = get_or_read old.next_choice.items _
+          let awaits : w.index-in-Min.result.now ≡ slice_index old.next_choice.items state =
+          get_or_read old.next_choice.items _
           _ (omega (arith, c.requires.next_choice, c.requires.leads.leads.state)) w.index-in-Min.ensures 0 in
           let count : w.choices_of.result ≡ length (choices_of q.game state) =
           w.choices_of.ensures ∙ ap (λ list. length (choices_of list state)) w.game.ensures in

@@ -33,7 +33,8 @@ returns c =
     c.states-states.ensures ∙ ap length c.game.ensures in
     let all : c.loop-state.state ≡ states c.args.question.now = omega (arith, many) in
     let first : c.in_ok-next_choice.next_choice.items ≡ replicate c.states-states.result 0 = search rules in
-    λ excluded. IsAttractorSearch-goals c.args.question.now excluded c.loop-state.members.items c.in_ok-next_choice.next_choice.items
+    λ excluded. IsAttractorSearch-goals c.args.question.now excluded c.loop-state.members.items
+    c.in_ok-next_choice.next_choice.items
     c.loop-state.order.items c.invariant.ensures
     (record { many = c.loop-state.invariant.many ∙ all; each = λ s l. c.loop-state.invariant.each s (omega arith) })
     c.loop-state.invariant.ordered (first ∙ ap (λ n. replicate n 0) many)

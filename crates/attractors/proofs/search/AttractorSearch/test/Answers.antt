@@ -8,7 +8,8 @@ use Rattle.attractors.specs.Search.{IsAttractorSearch}
 use Rattle.attractors.proofs.Serving.{attracts-some, attracts-all}
 use Rattle.attractors.proofs.Following.{IsAttractorSearch-member, before-next}
 use Rattle.attractors.proofs.search.AttractorSearch.test.Goals as goal
-use Rattle.attractors.proofs.search.AttractorSearch.test.Goals.{in-Max+else-not-some_serves, in-Min+else-next-choices_of}
+use Rattle.attractors.proofs.search.AttractorSearch.test.Goals.{in-Max+else-not-some_serves}
+use Rattle.attractors.proofs.search.AttractorSearch.test.Goals.{in-Min+else-next-choices_of}
 
 pub returns-clause-grows : goal.returns-clause-grows
 returns-clause-grows g c =
@@ -23,10 +24,12 @@ returns-clause-grows g c =
     let drawn : is_attracted q excluded old.members.items state ≡ true = elim c.match-side.branch [
       | in-Max+else-not-some_serves w ↦
           attracts-some q excluded old.members.items state (sym w.in-Max.ensures)
-          (ap (λ (set : List Bool). list_any (serves excluded set) (choices_of q.game state)) (sym w.deref.ensures.value)
+          (ap (λ (set : List Bool). list_any (serves excluded set) (choices_of q.game state))
+          (sym w.deref.ensures.value)
           ∙ sym w.if-not-some_serves.ensures)
       | in-Min+else-next-choices_of w ↦
-          let awaits : w.index-in-Min.result.now ≡ slice_index old.next_choice.items state = get_or_read old.next_choice.items _
+          let awaits : w.index-in-Min.result.now ≡ slice_index old.next_choice.items state =
+          get_or_read old.next_choice.items _
           _ (omega (arith, c.requires.state, c.requires.grown.as_many)) w.index-in-Min.ensures 0 in
           let count : w.choices_of.result ≡ length (choices_of q.game state) =
           w.choices_of.ensures ∙ ap (λ list. length (choices_of list state)) w.game.ensures in
@@ -40,7 +43,9 @@ returns-clause-grows g c =
           (λ k from upto. w.first_unserved-next.ensures.before k (omega (arith, from, awaits))
           (omega (arith, upto, count, w.if-next-choices_of.false)))))
     ] in
-    subst (λ (list : List ℕ). IsAttractorSearch q excluded [] (slice_set old.members.items state true) old.next_choice.items list)
+    subst (λ (list : List ℕ). IsAttractorSearch q excluded []
+    (slice_set old.members.items state true) old.next_choice.items list)
     (sym c.in_ok-push.ensures.items)
-    (IsAttractorSearch-member q excluded [] old.members.items old.next_choice.items old.order.items state c.requires.grown
+    (IsAttractorSearch-member q excluded
+    [] old.members.items old.next_choice.items old.order.items state c.requires.grown
     c.requires.state out within drawn)

@@ -22,7 +22,8 @@ enter-requires g c =
     let state : c.args.state < length c.args.question.now.game = omega (arith, c.requires.state, c.requires.one) in
     omega (
       arith,
-      successor-inside _ _ _ c.in-Some.place _ to c.invariant.ensures.game state c.requires.choice c.in-Some.ensures.place,
+      successor-inside _ _ _ c.in-Some.place _ to c.invariant.ensures.game state c.requires.choice
+          c.in-Some.ensures.place,
       c.requires.one,
       c.follow.ensures.same,
     )

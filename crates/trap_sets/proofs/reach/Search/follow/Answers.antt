@@ -38,7 +38,8 @@ loop-to-preserved c =
     } in
     record {
       more = IsMore-join (IsStepOf internal s) _ _ _ _ _ _ c.loop-to.invariant.more (IsMore-weaker (λ u. u ≡ t)
-          (IsStepOf internal s) _ _ _ _ (λ u same. subst (IsStepOf internal s) (sym same) step) c.in_ok-add.ensures.more);
+          (IsStepOf internal s) _ _ _ _
+          (λ u same. subst (IsStepOf internal s) (sym same) step) c.in_ok-add.ensures.more);
       met = λ k below. elim (cases_eq k c.loop-to.to-index) [
         | inl same ↦ ap (λ j. slice_index_or c.add.new.self.marks.items
             (slice_index c.successors-to-items.result.now j) false) same ∙ c.in_ok-add.ensures.added

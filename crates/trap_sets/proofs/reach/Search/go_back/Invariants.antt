@@ -9,6 +9,7 @@ abbrev pub invariant-loop-step : goal.invariant-loop-step
 invariant-loop-step l = record {
   more : IsMore (λ s. IsStepOf l.internal s l.state) l.fn.self.marks.items l.fn.self.order.items l.self.marks.items
       l.self.order.items;
-  met : All (λ (m : Move). IsInternalOf l.internal m.state m.choice → slice_index_or l.self.marks.items m.state false ≡ true)
+  met : All (λ (m : Move). IsInternalOf l.internal m.state m.choice
+      → slice_index_or l.self.marks.items m.state false ≡ true)
       (take l.step-index l.step-items);
 }
