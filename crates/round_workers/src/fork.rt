@@ -50,7 +50,7 @@ pub fn round<R: Threads + Sync, P: Posing + Send + Sync, G: Gate + Sync>(
     ensures few { result.raises ≤ states P.posed }
     ensures parts { workers ≤ parts_of pass → parts_of result.pass ≡ parts_of pass }
 {
-    let crew = WorkerRange::all(table.question().game(), workers);
+    let range = WorkerRange::all(table.question().game(), workers);
     let task = Task {
         table,
         predecessors,
@@ -58,7 +58,7 @@ pub fn round<R: Threads + Sync, P: Posing + Send + Sync, G: Gate + Sync>(
         whole,
         gate,
     };
-    fork(rt, &task, pass, more, crew)
+    fork(rt, &task, pass, more, range)
 }
 
 /// Makes the part of a worker range. The first of `more` is the mark of its first state.
@@ -67,18 +67,18 @@ fn fork<R: Threads + Sync, P: Posing + Send + Sync, G: Gate + Sync>(
     task: &Task<'_, P, G>,
     mut pass: Pass<P>,
     more: &mut [bool],
-    crew: WorkerRange,
+    range: WorkerRange,
 ) -> Rounded<P>
     requires pass { IsOf task.now.table.now pass }
-    requires more { crew.low + length more.old ≡ crew.high }
-    requires crew { IsWorkerRange P.posed.game crew }
+    requires more { range.low + length more.old ≡ range.high }
+    requires range { IsWorkerRange P.posed.game range }
     ensures { IsSwept P.posed task.now.marks.now
-        (crew.last - crew.first) crew.low crew.high pass.seat result.pass.seat result.raises }
+        (range.last - range.first) range.low range.high pass.seat result.pass.seat result.raises }
 {
-    if crew.last - crew.first == 1 {
-        return sweep(task, pass, more, crew.first, crew.low, crew.high);
+    if range.last - range.first == 1 {
+        return sweep(task, pass, more, range.first, range.low, range.high);
     }
-    let (front, back) = halves(task.table, crew);
+    let (front, back) = halves(task.table, range);
     let other = task.table.split(&mut pass);
     let (mine, others) = more.split_at_mut((front.high - front.low) as usize);
     let (left, right) = join(
@@ -100,10 +100,10 @@ fn fork<R: Threads + Sync, P: Posing + Send + Sync, G: Gate + Sync>(
 }
 
 /// Returns the halves of a worker range of at least two workers.
-fn halves<P: Posing>(table: &ValueTable<'_, P>, crew: WorkerRange) -> (WorkerRange, WorkerRange)
-    requires crew { IsWorkerRange P.posed.game crew }
-    requires some { 2 ≤ crew.last - crew.first }
-    ensures { AreHalves P.posed.game crew result.0 result.1 }
+fn halves<P: Posing>(table: &ValueTable<'_, P>, range: WorkerRange) -> (WorkerRange, WorkerRange)
+    requires range { IsWorkerRange P.posed.game range }
+    requires some { 2 ≤ range.last - range.first }
+    ensures { AreHalves P.posed.game range result.0 result.1 }
 {
-    crew.halves(table.question().game())
+    range.halves(table.question().game())
 }

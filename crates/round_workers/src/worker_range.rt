@@ -27,7 +27,7 @@ impl WorkerRange {
     /// Makes the worker range of all workers of a round.
     pub fn all(game: &Game, workers: u32) -> WorkerRange
         requires { (1 ≤ workers) × (workers ≤ most_workers) }
-        ensures crew { IsWorkerRange game.now result }
+        ensures range { IsWorkerRange game.now result }
         ensures count { result.last - result.first ≡ workers }
         ensures low { result.low ≡ 0 }
         ensures high { result.high ≡ length game.now }
@@ -44,7 +44,7 @@ impl WorkerRange {
 
     /// Returns the first half of the workers, and the others.
     pub fn halves(self, game: &Game) -> (WorkerRange, WorkerRange)
-        requires crew { IsWorkerRange game.now self }
+        requires range { IsWorkerRange game.now self }
         requires some { 2 ≤ self.last - self.first }
         ensures { AreHalves game.now self result.0 result.1 }
     {

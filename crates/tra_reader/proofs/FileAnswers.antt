@@ -8,7 +8,7 @@ use Rattle.game_outside.specs.Files.{HeldTextWith, ReadsFile}
 use Rattle.game_model.specs.Game.{Distribution}
 use Rattle.transition_lines.specs.declared.fault.TraFault.{TraFault}
 use Rattle.tra_reader.specs.declared.stop.Stop.{Stop}
-use Rattle.tra_reader.specs.declared.stop.Stop.TheVariants as halt
+use Rattle.tra_reader.specs.declared.stop.Stop.TheVariants as stop
 use Rattle.game_outside.specs.Answers.{AnswersOrWants}
 use Rattle.transition_lines.specs.Faults.{IsOutOfMemory}
 use Rattle.tra_reader.specs.inside.Reading.{IsAnswer}
@@ -81,8 +81,8 @@ module _ (holding : Option Holding) (name : List ℕ) (limit : ℕ) where
             (found : Result (List (List Distribution)) (FileEnd TraFault)) → Some found ≡ in_order_of read
             → ReadsFile (λ text answer. IsAnswer text_fault answer (said text)) holding name limit read → Right found
         by (Ok game) found is of = subst Right (some_is _ _ is) of
-        by (Err (file.Refused halt.OutOfOrder)) found is of = cc
-        by (Err (file.Refused (halt.Refused fault))) found is of =
+        by (Err (file.Refused stop.OutOfOrder)) found is of = cc
+        by (Err (file.Refused (stop.Refused fault))) found is of =
             subst Right (some_is _ _ is) (of_text holding name limit _ _ (λ text holds. holds fault refl) of)
         by (Err file.OutOfMemory) found is of = subst Right (some_is _ _ is) tt
         by (Err file.ReadFault) found is of = subst Right (some_is _ _ is) tt

@@ -7,7 +7,7 @@ use Rattle.transition_lines.specs.declared.fault.TraCause.{TraCause}
 use Rattle.transition_lines.specs.declared.fault.TraCause.TheVariants.{OutOfMemory, Choice}
 use Rattle.transition_lines.specs.declared.fault.TraFault.{TraFault}
 use Rattle.tra_reader.specs.declared.stop.Stop.{Stop}
-use Rattle.tra_reader.specs.declared.stop.Stop.TheVariants as halt
+use Rattle.tra_reader.specs.declared.stop.Stop.TheVariants as stop
 
 -- Memory ran out, for the whole text or for a choice.
 abbrev pub is_out_of_memory : TraCause → Bool
@@ -27,8 +27,8 @@ without_want_of (Err file.TooLong) = Err file.TooLong
 -- The answer is what was read, unless a line was out of order.
 abbrev pub in_order_of : {X : Type 0} → Result X (FileEnd Stop) → Option (Result X (FileEnd TraFault))
 in_order_of (Ok x) = Some (Ok x)
-in_order_of (Err (file.Refused halt.OutOfOrder)) = None
-in_order_of (Err (file.Refused (halt.Refused fault))) = Some (Err (file.Refused fault))
+in_order_of (Err (file.Refused stop.OutOfOrder)) = None
+in_order_of (Err (file.Refused (stop.Refused fault))) = Some (Err (file.Refused fault))
 in_order_of (Err file.OutOfMemory) = Some (Err file.OutOfMemory)
 in_order_of (Err file.ReadFault) = Some (Err file.ReadFault)
 in_order_of (Err file.TooLong) = Some (Err file.TooLong)

@@ -104,7 +104,7 @@ impl OrderedRows {
     pub fn take(&mut self, alloc: Global, number: u32, line: &[u8]) -> Result<(), Stop>
         requires { fields_of line.now ≢ [] }
         ensures ok { OnOk result (TakesOrdered self.old self.new line.now) }
-        ensures fault { MatchResult result (λ _. Unit {0}) (λ halt. RefusesOrdered self.old number line.now halt) }
+        ensures fault { MatchResult result (λ _. Unit {0}) (λ stop. RefusesOrdered self.old number line.now stop) }
     {
         match read_row(&self.header, self.read, number, line) {
             Err(fault) => Err(Stop::Refused(fault)),
@@ -125,8 +125,8 @@ impl OrderedRows {
         ensures ok { OnOk result (AddsOrdered self.old self.new
             (record { transition = transition.now; action = action.now })) }
         ensures fault { MatchResult result (λ _. Unit {0})
-            (λ halt. RefusesOrderedRow self.old number
-            (record { transition = transition.now; action = action.now }) halt) }
+            (λ stop. RefusesOrderedRow self.old number
+            (record { transition = transition.now; action = action.now }) stop) }
     {
         let place = transition.place();
         if place < self.game.place() {

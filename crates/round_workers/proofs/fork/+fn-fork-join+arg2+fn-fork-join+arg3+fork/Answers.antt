@@ -6,7 +6,7 @@ pub returns : goal.returns
 returns g t c =
     let q = g.P.Posing.posed in
     let marks = c.args.task.now.marks.now in
-    let crew = c.args.crew in
+    let range = c.args.range in
     let front = c.halves.result.0 in
     let back = c.halves.result.1 in
     let h = c.halves.ensures in
@@ -14,15 +14,15 @@ returns g t c =
     let middle = h.firsts.1 in
     let next = h.firsts.2 in
     let last = h.firsts.3 in
-    let some = crew.some in
+    let some = range.some in
     let p = c.split-other.ensures in
     let m = c.meet.ensures in
     parts-meet q marks (front.last - front.first) (back.last - back.first)
-    (crew.last - crew.first) crew.low front.high crew.high c.args.pass.seat c.split-other.new.pass.seat
+    (range.last - range.first) range.low front.high range.high c.args.pass.seat c.split-other.new.pass.seat
     c.split-other.result.seat _ _ c.meet.result.pass.seat _ _ c.meet.result.raises
     p.grew p.seen p.won p.new.1 p.new.2 p.parts
-    (swept-same q marks (front.last - front.first) front.low front.high crew.low front.high _ _ _ h.lows.0 refl
+    (swept-same q marks (front.last - front.first) front.low front.high range.low front.high _ _ _ h.lows.0 refl
     c.join-left.ensures.first)
-    (swept-same q marks (back.last - back.first) back.low back.high front.high crew.high _ _ _ h.lows.1 h.lows.2
+    (swept-same q marks (back.last - back.first) back.low back.high front.high range.high _ _ _ h.lows.1 h.lows.2
     c.join-left.ensures.second)
     m.left m.right m.won m.parts m.raises (omega arith) (omega arith) (omega arith)

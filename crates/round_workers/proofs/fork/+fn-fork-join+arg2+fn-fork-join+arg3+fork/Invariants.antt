@@ -8,4 +8,4 @@ abbrev pub decreases-join+arg3 : goal.decreases-join+arg3
 decreases-join+arg3 g l = 2 * (l.back.last - l.back.first) + 1
 
 abbrev pub decreases-fork : goal.decreases-fork
-decreases-fork g l = 2 * (l.crew.last - l.crew.first)
+decreases-fork g l = 2 * (l.range.last - l.range.first)

@@ -18,7 +18,7 @@ unfolding game_of
 returns-in-Err-Refused c =
     let right = right_whole ordered_header HoldsOrdered text_fault c.new.result.held
     (significant (lines_of c.args.bytes.now)) (Err c.in-Err-Refused.field-0) c.new.ensures c.in-Err-Refused.ensures in
-    right c.in-Err-Refused.fault (ap (λ (halt : Stop). text_fault halt) c.in-Err-Refused.field-0-is)
+    right c.in-Err-Refused.fault (ap (λ (stop : Stop). text_fault stop) c.in-Err-Refused.field-0-is)
 
 pub returns-in-Err-OutOfOrder : goal.returns-in-Err-OutOfOrder
 unfolding game_of

@@ -5,17 +5,17 @@ use Rattle.round_workers.proofs.worker_range.WorkerRange.halves.Goals as goal
 pub returns : goal.returns
 returns c =
     let game = c.args.game.now in
-    let crew = c.args.self in
-    let middle : ℕ = crew.first + (crew.last - crew.first) / 2 in
+    let range = c.args.self in
+    let middle : ℕ = range.first + (range.last - range.first) / 2 in
     let cut = c.first_state-cut.result in
     let here = c.first_state-cut.ensures in
-    let some = crew.some in
+    let some = range.some in
     record {
-      front_crew = record { begins = c.requires.crew.begins; ends = here };
-      back_crew = record { begins = here; ends = c.requires.crew.ends };
+      front_range = record { begins = c.requires.range.begins; ends = here };
+      back_range = record { begins = here; ends = c.requires.range.ends };
       order = (
-        blocks-rise game crew.workers crew.first middle crew.low cut (omega arith) c.requires.crew.begins here,
-        blocks-rise game crew.workers middle crew.last cut crew.high (omega arith) here c.requires.crew.ends,
+        blocks-rise game range.workers range.first middle range.low cut (omega arith) c.requires.range.begins here,
+        blocks-rise game range.workers middle range.last cut range.high (omega arith) here c.requires.range.ends,
       );
       lows = (refl, refl, refl);
       firsts = (refl, refl, refl, refl);

@@ -19,8 +19,8 @@ returns-in_ok-begin-in-None-clause-ok c = right_header ordered_header HoldsOrder
 
 pub returns-in-Some-clause-fault : goal.returns-in-Some-clause-fault
 returns-in-Some-clause-fault c =
-    fault_further c.take.result (λ halt refuses lines. right_fault ordered_header HoldsOrdered text_fault
-    c.args.self.now.held c.args.number c.in-Some.held c.args.line.now halt c.in-Some.is refuses lines)
+    fault_further c.take.result (λ stop refuses lines. right_fault ordered_header HoldsOrdered text_fault
+    c.args.self.now.held c.args.number c.in-Some.held c.args.line.now stop c.in-Some.is refuses lines)
     c.take.ensures.fault
 
 pub returns-in-Some-clause-ok : goal.returns-in-Some-clause-ok

@@ -9,7 +9,7 @@ returns-in-Ok-clause-fault c =
     let row : Row = record { transition = c.in-Ok.transition; action = c.in-Ok.action.now } in
     let old = c.args.self.now in
     fault_further c.add.result
-    (λ halt. refuses_row ordered_header HoldsOrdered text_fault old.read c.args.number old c.args.line.now row halt
+    (λ stop. refuses_row ordered_header HoldsOrdered text_fault old.read c.args.number old c.args.line.now row stop
     (λ rows holds. holds.count) c.requires c.in-Ok.ensures.said.0 c.in-Ok.ensures.said.1)
     c.add.ensures.fault
 
