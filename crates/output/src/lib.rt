@@ -12,7 +12,7 @@
 //! `specs/Caused.antt` says which refusals have another cause.
 //!
 //! [`laws`] says that an output has one reading, and that no two refusals have one line: numbers of at most 64 digits
-//! are written in full, and [`Refusal::known`] says that a refusal's numbers are.
+//! are written in full, and [`Refusal::invariant`] says that a refusal's numbers are.
 #![tactic(auto)]
 
 mod answer;
