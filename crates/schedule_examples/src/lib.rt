@@ -1,5 +1,5 @@
 //! These are the tests of the crates that compute over games: events of a world, threads that race, workers, sweeps,
-//! brackets, and parallel sweeps that guess. Each call of these crates has a worked example.
+//! brackets, and guesses by several workers. Each call of these crates has a worked example.
 //!
 //! The tests are in a crate above these crates, because a test in a crate proves that crate once more.
 #![tactic(auto)]

@@ -17,7 +17,7 @@ use std::thread::Threads;
 use upper_guess::Alone;
 use zero_sets::zero_set;
 
-// Parallel sweeps of several sizes make the guess that one worker makes, by as many up steps.
+// Several numbers of workers make the guess that one worker makes, by as many up steps.
 fn teams_agree<R: Threads + Sync>(
     rt: &R,
     alloc: Global,
@@ -46,7 +46,7 @@ fn teams_agree<R: Threads + Sync>(
     Ok(())
 }
 
-// Parallel sweeps agree over a game of one player, whose goal is this state.
+// They agree over a game of one player, whose goal is this state.
 fn teams_agree_over<R: Threads + Sync>(
     rt: &R,
     alloc: Global,
@@ -72,7 +72,7 @@ fn teams_guess_what_one_worker_does(rt: HostRuntime) -> Result<(), Fail> {
     teams_agree_over(&rt, alloc, game, Side::Min, 2, &[0, 0, UNIT, 0])
 }
 
-// Parallel sweeps agree over the table that is 0 everywhere.
+// They agree over the table that is 0 everywhere.
 fn teams_agree_from_nothing<R: Threads + Sync>(
     rt: &R,
     alloc: Global,
@@ -88,7 +88,7 @@ fn teams_guess_the_same_over_a_drawn_game(rt: HostRuntime) -> Result<(), Fail> {
     teams_agree_over_drawn(&rt, rt.alloc(), 7, 200)
 }
 
-// Parallel sweeps agree over a drawn game.
+// They agree over a drawn game.
 fn teams_agree_over_drawn<R: Threads + Sync>(
     rt: &R,
     alloc: Global,
