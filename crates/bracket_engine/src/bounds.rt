@@ -2,8 +2,8 @@
 
 use plan_text::Plan;
 
-/// A bracket is a plan of a question, whose tables lie on both sides of the values, and what is known of the run that
-/// it comes from.
+/// A bracket has a plan of a question, whose tables lie on both sides of the values, and tells of the run that it comes
+/// from.
 #[derive(Drop)]
 pub struct Bracket {
     /// The lower table is the lower guess of the base: k-step values come as near to it as one likes, for each state.

@@ -133,7 +133,7 @@ struct UpperJob<'a, R: Threads + Sync> {
 impl<R: Threads + Sync> Job for UpperJob<'_, R> {
     type Made = Result<UpperSide, OutOfMemory>;
 
-    // The parallel sweep shares what starts threads.
+    // The workers share what starts threads.
     ghost can_run = { λ j. IsSync R.row × IsZeroSet j.base.now.question.now j.base.now.zero.now
         × AreUpperParts j.base.now.question.now j.base.now.zero.now j.swapped_values.items j.kept };
 
