@@ -12,7 +12,7 @@ use game_outside::OutOfMemory;
 use local_values::solve_nearly;
 use std::alloc::Global;
 use std::num::nearest_u64_to_f64;
-use table_rounding::{Input, UnitTable, round_component, single_entry};
+use table_rounding::{Input as RoundingInput, UnitTable, round_component, single_entry};
 
 /// The local game of a component comes with an initial policy.
 #[derive(Drop)]
@@ -68,7 +68,7 @@ pub(crate) fn lower_component(
             note_value(found, *state, *value);
         }
     }
-    let input = Input {
+    let rounding = RoundingInput {
         question: input.question,
         predecessors: input.predecessors,
         components: input.components,
@@ -77,7 +77,7 @@ pub(crate) fn lower_component(
         nodes: &nodes,
         bound: Bound::Lower,
     };
-    let _is_held = round_component(alloc, &input, &values, &policy, planned, lower)?;
+    let _is_held = round_component(alloc, &rounding, &values, &policy, planned, lower)?;
     Ok(())
 }
 

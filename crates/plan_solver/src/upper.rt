@@ -15,7 +15,7 @@ use game_outside::OutOfMemory;
 use local_values::solve_nearly;
 use std::alloc::Global;
 use std::num::nearest_u64_to_f64;
-use table_rounding::{Input, UnitTable, round_component, single_entry};
+use table_rounding::{Input as RoundingInput, UnitTable, round_component, single_entry};
 
 /// Upper values begin with a value for each state, in units, and a choice of the maximiser.
 #[derive(Drop)]
@@ -90,7 +90,7 @@ pub(crate) fn upper_component(
         return Ok(());
     }
     solve_nearly(alloc, &game, &mut values, &mut policy)?;
-    let input = Input {
+    let rounding = RoundingInput {
         question: input.question,
         predecessors: input.predecessors,
         components: input.components,
@@ -99,7 +99,7 @@ pub(crate) fn upper_component(
         nodes: &nodes,
         bound: Bound::Upper,
     };
-    let is_held = round_component(alloc, &input, &values, &policy, replies, upper)?;
+    let is_held = round_component(alloc, &rounding, &values, &policy, replies, upper)?;
     show(members, &nodes, &values, is_held, upper, shown);
     Ok(())
 }
