@@ -46,27 +46,31 @@ ends-behind : {X Y : Type 0} (end : Option Refusal) (next : X → Said Y) → an
 ends-behind None next = refl
 ends-behind (Some refusal) next = refl
 
+-- what the transition text, the label text and the owner text say
+abbrev pub SaysGame : Option Holding → Asked → Said (List (List Distribution)) → Type 0
+SaysGame holding asked said = TextSays holding (λ held. held asked.tra) game_said said
+
+abbrev pub SaysLabels : Option Holding → Asked → ℕ → Said Labelling → Type 0
+SaysLabels holding asked states said =
+    TextSays holding (λ held. held asked.lab) (λ source. labels_said source states) said
+
+abbrev pub SaysOwners : Option Holding → Asked → ℕ → Said Ownership → Type 0
+SaysOwners holding asked states said =
+    TextSays holding (held_own asked.own) (λ source. owners_said asked.own source states) said
+
 module _ {holding : Option Holding} (asked : Asked) where
-  -- what the transition text, the label text and the owner text say
-  abbrev pub SaysGame : Said (List (List Distribution)) → Type 0
-  SaysGame said = TextSays holding (λ held. held asked.tra) game_said said
-
-  abbrev pub SaysLabels : ℕ → Said Labelling → Type 0
-  SaysLabels states said = TextSays holding (λ held. held asked.lab) (λ source. labels_said source states) said
-
-  abbrev pub SaysOwners : ℕ → Said Ownership → Type 0
-  SaysOwners states said = TextSays holding (held_own asked.own) (λ source. owners_said asked.own source states) said
-
   -- the shelf was read before, with this many states
   pub labels_kept : {now : Option Holding} {states number : ℕ} {it : Said Labelling} → now ≡ holding → states ≡ number
-      → TextSays now (λ held. held asked.lab) (λ source. labels_said source states) it → SaysLabels number it
+      → TextSays now (λ held. held asked.lab) (λ source. labels_said source states) it
+      → SaysLabels holding asked number it
   labels_kept kept same says = text_kept (λ n source. labels_said source n) kept same says
 
   pub owners_kept : {now : Option Holding} {states number : ℕ} {it : Said Ownership} → now ≡ holding → states ≡ number
-      → TextSays now (held_own asked.own) (λ source. owners_said asked.own source states) it → SaysOwners number it
+      → TextSays now (held_own asked.own) (λ source. owners_said asked.own source states) it
+      → SaysOwners holding asked number it
   owners_kept kept same says = text_kept (λ n source. owners_said asked.own source n) kept same says
 
-  pub game_ends : (end : Option Refusal) → SaysGame (ends end) → ReadsAs holding asked (ends end)
+  pub game_ends : (end : Option Refusal) → SaysGame holding asked (ends end) → ReadsAs holding asked (ends end)
   game_ends end tra =
       let lab = as_told holding (λ held. held asked.lab) in
       let own = as_told holding (held_own asked.own) in
@@ -78,8 +82,9 @@ module _ {holding : Option Holding} (asked : Asked) where
             ∙ ends-behind end (λ game. behind_game sources asked game);
       }
 
-  module _ {game : List (List Distribution)} (tra : SaysGame (Denoted game)) where
-    pub labels_end : (end : Option Refusal) → SaysLabels (length game) (ends end) → ReadsAs holding asked (ends end)
+  module _ {game : List (List Distribution)} (tra : SaysGame holding asked (Denoted game)) where
+    pub labels_end : (end : Option Refusal) → SaysLabels holding asked (length game) (ends end)
+        → ReadsAs holding asked (ends end)
     labels_end end lab =
         let own = as_told holding (held_own asked.own) in
         let sources : Sources = record { tra = tra.source; lab = lab.source; own = own.0 } in
@@ -91,9 +96,9 @@ module _ {holding : Option Holding} (asked : Asked) where
               ∙ ends-behind end (λ labels. behind_labels sources asked game labels);
         }
 
-    module _ {labels : Labelling} (lab : SaysLabels (length game) (Denoted labels)) where
+    module _ {labels : Labelling} (lab : SaysLabels holding asked (length game) (Denoted labels)) where
       -- what the owner text says is what is said of the reading behind it
-      behind : (said : Said Ownership) → SaysOwners (length game) said
+      behind : (said : Said Ownership) → SaysOwners holding asked (length game) said
           → ReadsAs holding asked (and_then said (λ owners. behind_owners asked game labels owners))
       behind said own =
           let sources : Sources = record { tra = tra.source; lab = lab.source; own = own.source } in
@@ -105,18 +110,20 @@ module _ {holding : Option Holding} (asked : Asked) where
                 ∙ ap (λ s. and_then s (λ owners. behind_owners asked game labels owners)) own.says;
           }
 
-      pub owners_end : (end : Option Refusal) → SaysOwners (length game) (ends end) → ReadsAs holding asked (ends end)
+      pub owners_end : (end : Option Refusal) → SaysOwners holding asked (length game) (ends end)
+          → ReadsAs holding asked (ends end)
       owners_end end own = subst (λ (s : Said Reading). ReadsAs holding asked s)
           (ends-behind end (λ owners. behind_owners asked game labels owners)) (behind (ends end) own)
 
-      pub formula_ends : {owners : Ownership} → SaysOwners (length game) (Denoted owners) → (end : Option Refusal)
+      pub formula_ends : {owners : Ownership} → SaysOwners holding asked (length game) (Denoted owners)
+          → (end : Option Refusal)
           → formula_read asked.formula ≡ ends end → ReadsAs holding asked (ends end)
       formula_ends {owners} own end is =
           let next = λ (formula : Tree). Denoted (reading_with game labels owners formula) in
           subst (λ (s : Said Reading). ReadsAs holding asked s) (ap (λ s. and_then s next) is ∙ ends-behind end next)
           (behind (Denoted owners) own)
 
-      pub all_read : {owners : Ownership} → SaysOwners (length game) (Denoted owners) → (formula : Tree)
+      pub all_read : {owners : Ownership} → SaysOwners holding asked (length game) (Denoted owners) → (formula : Tree)
           → formula_read asked.formula ≡ Denoted formula
           → ReadsAs holding asked (Denoted (reading_with game labels owners formula))
       all_read {owners} own formula is =
