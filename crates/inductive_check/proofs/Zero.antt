@@ -11,7 +11,6 @@ use Rattle.game_model.specs.Values.{weighted_sum, denominator, numerator, numera
 use Rattle.game_model.specs.Limits.{unit}
 use Rattle.game_model.specs.Rounded.{up_value, up_step}
 use Rattle.game_model.specs.Dual.{IsZeroSet}
-use Rattle.game_model.proofs.Each.{AllByRecursion-weaker}
 use Rattle.game_model.proofs.Choices.{IsChoiceOf, AreChoicesOf, AreChoicesOf-choices_of, denominator-pos}
 use Rattle.game_model.proofs.Best.{weighted_sum-le}
 use Rattle.game_model.proofs.Rises.{bellman-le, numerator_of-rises}
@@ -70,8 +69,7 @@ up_value-scaled : (q : Query) (table : ℕ → ℕ) (k : ℕ) (m : Distribution)
     → 1 * up_value table m ≤ unit * (denominator q.game / m.total * weighted_sum (numerator q k) m.edges)
 up_value-scaled q table k m positive fits below =
     let sums : 1 * weighted_sum table m.edges ≤ unit * weighted_sum (numerator q k) m.edges =
-    weighted_sum-le table (numerator q k) 1 unit m.edges (AllByRecursion-weaker (λ (e : Edge). e.to < length q.game) _
-    (λ e inside. omega (arith, below e.to inside)) m.edges fits.inside) in
+    weighted_sum-le table (numerator q k) 1 unit m.edges (λ i e l. omega (arith, below _ (fits.inside i e l))) in
     let cofactor : 1 ≤ denominator q.game / m.total = quotient-pos (denominator q.game) m.total fits.divides positive in
     omega (
       arith,
@@ -92,8 +90,7 @@ up_step-scaled q table k s posed below =
     let step : 1 * up_step q table s ≤ unit * numerator q (suc k) s =
     bellman-le q (choices_of q.game) 1 unit unit (D ^ suc k) (up_value table) _ s
     (omega (arith, mul-le-mul_left unit one))
-    (AllByRecursion-weaker (IsChoiceOf q.game) _ (λ m fits. up_value-scaled q table k m positive fits below)
-    (choices_of q.game s) (chosen.each s)) in
+    (λ i m l. up_value-scaled q table k _ positive (chosen.each s i m l) below) in
     omega (arith, step)
 
 pub up_step-zero : (q : Query) (marks : List Bool) (table : ℕ → ℕ) → IsQuery q
