@@ -15,7 +15,6 @@ use Rattle.game_model.specs.Limits.{unit}
 use Rattle.game_model.specs.Rounded.{up_value, up_step, IsInductive}
 use Rattle.game_model.specs.Ranks.{Ranked, HasRankedChoice}
 use Rattle.game_model.specs.Dual.{IsZeroSet, other_side, swapped}
-use Rattle.game_model.proofs.Each.{AllByRecursion-weaker}
 use Rattle.game_model.proofs.Choices.{IsChoiceOf, IsChoiceOf-choice_of}
 use Rattle.game_model.proofs.Best.{weighted_sum-both}
 use Rattle.inductive_check.proofs.Zero.{up_step-zero}
@@ -41,8 +40,7 @@ module _ (q : Query) (zero : List Bool) (values : List ℕ) (picks : List (Optio
       let fits : IsChoiceOf q.game m = IsChoiceOf-choice_of q.game s c h.game inside in_range in
       let both : weighted_sum table m.edges + weighted_sum (slice_index values) m.edges ≡ m.total * unit =
       subst (λ w. weighted_sum table m.edges + weighted_sum (slice_index values) m.edges ≡ w * unit) fits.sums
-      (weighted_sum-both table (slice_index values) unit m.edges (AllByRecursion-weaker
-      (λ (e : Edge). e.to < length q.game) _ (λ e within. whole e.to within) m.edges fits.inside)) in
+      (weighted_sum-both table (slice_index values) unit m.edges (λ i e l. whole _ (fits.inside i e l))) in
       let all : (table s + slice_index values s) * m.total ≡ unit * m.total = ap (λ n. n * m.total) (whole s inside) in
       omega (arith, both, all, enough)
 
