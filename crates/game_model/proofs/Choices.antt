@@ -10,7 +10,6 @@ use Rattle.std.proofs.lemmas.List.Elements.{All-nil, All-same, All-from_get_or, 
 use Rattle.std.proofs.Math.Nat.{dvd-mul_right, dvd-mul_left_of_dvd, dvd-mul_right_of_dvd, div-mul_cancel, mul-pos}
 use Rattle.std.specs.Bool.{if◌then◌else◌}
 use Rattle.std.proofs.lemmas.Bool.Decides.{nat_tests}
-use Rattle.game_model.specs.declared.game.Edge.{Edge}
 use Rattle.game_model.specs.declared.game.Side.{Side}
 use Rattle.game_model.specs.Game.{Distribution, IsGame, choices_of, choice_of, no_distribution}
 use Rattle.game_model.specs.Query.{Query, side_at}
