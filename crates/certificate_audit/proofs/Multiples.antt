@@ -87,9 +87,9 @@ module _ (f : ℕ) (some : 1 ≤ f) (v w : ℕ → ℕ) (times : (t : ℕ) → w
   sums : (edges : List Edge) → weighted_sum w edges ≡ f * weighted_sum v edges
   sums edges =
       let most : 1 * weighted_sum w edges ≤ f * weighted_sum v edges =
-      weighted_sum-le w v 1 f edges (λ i e l. omega (arith, times (get_or edges i e).to)) in
+      weighted_sum-le w v 1 f edges (λ i d l. omega (arith, times (get_or edges i d).to)) in
       let least : f * weighted_sum v edges ≤ 1 * weighted_sum w edges =
-      weighted_sum-le v w f 1 edges (λ i e l. omega (arith, times (get_or edges i e).to)) in
+      weighted_sum-le v w f 1 edges (λ i d l. omega (arith, times (get_or edges i d).to)) in
       omega (arith, most, least)
 
   held-times : (u x : ℕ) (m : Distribution) → x ≡ f * u → IsHeld v u m → IsHeld w x m
@@ -116,14 +116,14 @@ module _ (f : ℕ) (some : 1 ≤ f) (v w : ℕ → ℕ) (times : (t : ℕ) → w
   inductive-times q top posed inductive s inside =
       bellman-bound q (choices_of q.game) s top (f * top) (v s) (w s) (up_value v) (up_value w)
       (λ most. omega (arith, times s, mul-le-mul_left f most))
-      (λ i m l. up-times q.game (v s) (w s) _ (times s) ((AreChoicesOf-choices_of q.game posed.game).each s i m l))
+      (λ i d l. up-times q.game (v s) (w s) _ (times s) ((AreChoicesOf-choices_of q.game posed.game).each s i d l))
       (inductive s inside)
 
   pub times-inductive : (q : Query) (top : ℕ) → IsQuery q → IsInductiveIn (f * top) q w → IsInductiveIn top q v
   times-inductive q top posed inductive s inside =
       bellman-bound q (choices_of q.game) s (f * top) top (w s) (v s) (up_value w) (up_value v)
       (λ most. times-le f top (v s) some (omega (arith, times s, most)))
-      (λ i m l. times-up q.game (v s) (w s) _ (times s) ((AreChoicesOf-choices_of q.game posed.game).each s i m l))
+      (λ i d l. times-up q.game (v s) (w s) _ (times s) ((AreChoicesOf-choices_of q.game posed.game).each s i d l))
       (inductive s inside)
 
   reply-times : (q : Query) (s : ℕ) (reply : Option ℕ) → IsReply q v s reply → IsReply q w s reply

@@ -62,7 +62,7 @@ module _ (game : List (List Distribution)) (sides : List Side) (goals deads more
       let m : Distribution = get_or (choices_of game s) i d in
       scaled-le (D / m.total) (weighted_sum (numerator narrow k) m.edges) (weighted_sum (numerator wide k) m.edges)
       (weighted_sum-le (numerator narrow k) (numerator wide k) 1 1 m.edges
-      (λ j e _. omega (arith, numerator-wider k (get_or m.edges j e).to)))) in
+      (λ j d _. omega (arith, numerator-wider k (get_or m.edges j d).to)))) in
       step-wider (is_goal narrow s) (is_dead narrow s) (is_goal wide s) (is_dead wide s) (D ^ suc k) _ _ (rises s)
       (falls s) (omega (arith, each))
       (numerator_of-most narrow (choices_of game) chosen (suc k) s)

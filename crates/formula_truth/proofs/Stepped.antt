@@ -3,7 +3,6 @@ use Rattle.std.proofs.Common.{◌≡◌, ◌<◌, ◌≤◌, ◌*◌, ◌/◌, �
 use Rattle.std.proofs.Common.{arith, subst, refl}
 use Rattle.std.specs.Bool.{if◌then◌else◌}
 use Rattle.std.proofs.Math.Nat.{div-lt_iff_lt-mul, le-div_iff_mul-le}
-use Rattle.game_model.specs.declared.game.Edge.{Edge}
 use Rattle.game_model.specs.declared.game.Side.{Side}
 use Rattle.game_model.specs.Game.{Distribution, choices_of}
 use Rattle.game_model.specs.Query.{Query, IsQuery, is_goal, is_dead, side_at}
@@ -57,7 +56,7 @@ module _ (round : ℕ → ℕ → ℕ) (is : IsRounding round) (game : List (Lis
       → 1 * round (weighted_sum v m.edges) m.total ≤ 1 * round (weighted_sum w m.edges) m.total
   value-rises v w m fits h =
       let sums : 1 * weighted_sum v m.edges ≤ 1 * weighted_sum w m.edges =
-      weighted_sum-le v w 1 1 m.edges (λ i e l. omega (arith, h _ (fits.inside i e l))) in
+      weighted_sum-le v w 1 1 m.edges (λ i d l. omega (arith, h _ (fits.inside i d l))) in
       omega (
         arith,
         is.rises (weighted_sum v m.edges) (weighted_sum w m.edges) m.total fits.positive (omega (arith, sums)),
@@ -68,13 +67,13 @@ module _ (round : ℕ → ℕ → ℕ) (is : IsRounding round) (game : List (Lis
   value-most v m fits h =
       is.most (weighted_sum v m.edges) m.total unit fits.positive
       (subst (λ w. weighted_sum v m.edges ≤ w * unit) fits.sums
-      (weighted_sum-most v unit m.edges (λ i e l. h _ (fits.inside i e l))))
+      (weighted_sum-most v unit m.edges (λ i d l. h _ (fits.inside i d l))))
 
 pub step-most : (round : ℕ → ℕ → ℕ) → IsRounding round → (q : Query) → AreChoicesOf q.game (choices_of q.game)
     → (v : ℕ → ℕ) → AreUnits (length q.game) v → (s : ℕ) → step_of round q v s ≤ unit
 step-most round is q chosen v h s =
     bellman-most q (choices_of q.game) unit unit _ s (omega arith)
-    (λ i m l. value-most round is q.game v _ (chosen.each s i m l) h)
+    (λ i d l. value-most round is q.game v _ (chosen.each s i d l) h)
 
 pub steps-most : (round : ℕ → ℕ → ℕ) → IsRounding round → (q : Query) → AreChoicesOf q.game (choices_of q.game)
     → (v : ℕ → ℕ) → AreUnits (length q.game) v → (k : ℕ) → AreUnits (length q.game) (steps_from (step_of round q) v k)
@@ -101,7 +100,7 @@ module _ (game : List (List Distribution)) (sides : List Side) (goals deads more
       let each : 1 * optimum (side_at narrow s) (λ m. round (weighted_sum v m.edges) m.total) (choices_of game s)
       ≤ 1 * optimum (side_at wide s) (λ m. round (weighted_sum w m.edges) m.total) (choices_of game s) =
       optimum-le (side_at narrow s) _ _ 1 1 (choices_of game s)
-      (λ i m l. value-rises round is game v w _ (chosen.each s i m l) under) in
+      (λ i d l. value-rises round is game v w _ (chosen.each s i d l) under) in
       step-wider (is_goal narrow s) (is_dead narrow s) (is_goal wide s) (is_dead wide s) unit _ _ (rises s) (falls s)
       (omega (arith, each)) (step-most round is narrow chosen v units s)
 

@@ -53,7 +53,7 @@ pub up_step-le : (q : Query) (v w : ℕ → ℕ) → AreChoicesOf q.game (choice
 up_step-le q v w chosen h s =
     let step : 1 * up_step q v s ≤ 1 * up_step q w s =
     bellman-le q (choices_of q.game) 1 1 unit unit (up_value v) (up_value w) s (omega arith)
-    (λ i m l. omega (arith, up_value-le q.game v w _ (chosen.each s i m l) h)) in
+    (λ i d l. omega (arith, up_value-le q.game v w _ (chosen.each s i d l) h)) in
     omega (arith, step)
 
 -- the lesser of two inductive tables is inductive

@@ -160,7 +160,7 @@ module _ (q : Query) (posed : IsQuery q) (marks : List Bool) (sure : AreAlmostSu
       let one = meets-successor (layer q gone j) m both.1 in
       let kept = any-none (λ (e : Edge). slice_index_or gone e.to false) m.edges both.0 in
       let all : All (λ e. (e.to < states q) × (slice_index_or marks e.to false ≡ true)) m.edges =
-      λ i e l. let within = fits.inside i e l in (within, not-in _ _ (gone-at _ within) (kept i e l)) in
+      λ i d l. let within = fits.inside i d l in (within, not-in _ _ (gone-at _ within) (kept i d l)) in
       let there = all one.0 no_edge one.1 in
       let few : (ranking (get_or m.edges one.0 no_edge).to).0 ≤ j =
       ((ranking (get_or m.edges one.0 no_edge).to).1 there.0 there.1).1 j one.2 in

@@ -83,7 +83,7 @@ module _ (q : Query) (posed : IsQuery q) (marks : List Bool) (sure : AreAlmostSu
         enough = whole-enough (slice_index values s) m.total (weighted_sum (slice_index values) m.edges)
             (sum_by (λ e. e.weight) m.edges) unit fits.sums (sure-value s inside marked)
             (sum-whole (slice_index values) unit m.edges
-            (λ i e l. let both = h.stays i e l in sure-value _ both.0 both.1));
+            (λ i d l. let both = h.stays i d l in sure-value _ both.0 both.1));
         place = h.place;
         inside = h.within;
         onward = inr (
