@@ -55,7 +55,7 @@ fn label(alloc: Global, spelling: &[u8]) -> Result<Name, FormulaFault>
 }
 
 // Reads operands of a level, with its sign between them, if `room` more `!`, `(` and `[` may be open.
-#[tactic(auto, using(crate::proofs::Joining::begun, crate::proofs::Joining::went_on, crate::proofs::Joining::broke_off, crate::proofs::Joining::ended))]
+#[tactic(auto, using(crate::proofs::Joining::operands))]
 #[cycle(state)]
 fn level_state<'a>(alloc: Global, level: Level, room: u32, cursor: Cursor<'a>) -> Read<'a>
     ensures { AnswersOrWants IsOutOfMemory (read_at state_of) result
