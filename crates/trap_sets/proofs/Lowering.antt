@@ -2,15 +2,14 @@
 use Rattle.std.proofs.Common.{◌≡◌, ◌≢◌, ℕ, ◌*◌, ◌<◌, ◌≤◌, List, length, get_or, min, arith, refl, sym, ap, subst, inl}
 use Rattle.std.proofs.Common.{inr, ◌∙◌, Option, Some, None}
 use Rattle.std.specs.Prelude.{slice_index, slice_index_or, IsSomeAnd, All}
-use Rattle.std.specs.List.{AllByRecursion}
 use Rattle.std.proofs.Math.Nat.{min-le_left, min-le_right, le-min}
 use Rattle.std.proofs.lemmas.Bool.{cases_eq}
-use Rattle.std.proofs.lemmas.List.Elements.{recursion_from_All, All-from_get_or}
+use Rattle.std.proofs.lemmas.List.Elements.{All-from_get_or}
 use Rattle.std.proofs.lemmas.List.{get_or-map, length-map}
 use Rattle.game_model.specs.declared.game.Edge.{Edge}
 use Rattle.game_model.specs.declared.game.Side.{Side}
 use Rattle.game_model.specs.declared.game.Side.TheVariants.{Max, Min}
-use Rattle.game_model.specs.Game.{Distribution, no_edge, no_distribution, choices_of, choice_of}
+use Rattle.game_model.specs.Game.{Distribution, no_distribution, choices_of, choice_of}
 use Rattle.game_model.specs.Query.{Query, IsQuery, states, side_at}
 use Rattle.game_model.specs.Values.{optimum}
 use Rattle.game_model.specs.Rounded.{up_value, up_step, IsBelow, IsInductive}
@@ -55,13 +54,12 @@ up_value-most : (q : Query) (table : ℕ → ℕ) (s c b : ℕ) → IsQuery q �
 up_value-most q table s c b posed ls lc most =
     let m : Distribution = choice_of q.game s c in
     let fits : IsChoiceOf q.game m = choice_fits q s c posed ls lc in
-    let P : Edge → Type 0 = λ e. table e.to ≤ b in
-    let each : AllByRecursion P m.edges =
-    recursion_from_All P m.edges (All-from_get_or P m.edges no_edge (λ k l. most (get_or m.edges k no_edge).to (
+    let each : All (λ (e : Edge). table e.to ≤ b) m.edges =
+    λ k d l. most (get_or m.edges k d).to (
       k,
       omega (arith, l, length-map m.edges (λ (e : Edge). e.to)),
-      get_or-map (λ (e : Edge). e.to) m.edges k no_edge (get_or m.edges k no_edge).to l,
-    ))) in
+      get_or-map (λ (e : Edge). e.to) m.edges k d (get_or m.edges k d).to l,
+    ) in
     up_value-held table b m fits.positive
     (omega (arith, weighted_sum-most table b m.edges each, ap (λ n. n * b) fits.sums))
 
