@@ -42,10 +42,7 @@ fn opening_of(alloc: Global, question: &Question) -> Result<Vec<u64>, AllocError
     ensures each { IfOk result (λ table. (s : ℕ) → s < states question.now
         → slice_index table.items s ≡ opening question.now s) }
 {
-    let states = question.game().states();
-    let mut table = Vec::with_capacity(alloc, states as usize)?;
-    for state in 0..states {
-        table.push(if question.is_goal(state) { UNIT } else { 0 })?;
-    }
-    Ok(table)
+    (0..question.game().states())
+        .map(|state| if question.is_goal(state) { UNIT } else { 0 })
+        .collect(alloc)
 }

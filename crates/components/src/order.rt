@@ -14,12 +14,7 @@ pub fn is_play_order<K: Keeps>(question: &Question, kept: &K, component: &[u32])
     requires many { length component.now ≡ states question.now }
     ensures { IsTrue result → IsPlayOrder question.now (K.kept kept.now question.now) component.now }
 {
-    for state in 0..question.game().states() {
-        if !state_leads_back(question, kept, component, state) {
-            return false;
-        }
-    }
-    true
+    (0..question.game().states()).all(|state| state_leads_back(question, kept, component, state))
 }
 
 /// Returns the same for the kept choices of one state.

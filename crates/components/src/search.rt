@@ -265,12 +265,7 @@ fn keeps_any<K: Keeps>(question: &Question, kept: &K, state: u32) -> bool
     requires fits { K.fits kept.now question.now }
     requires state { state < states question.now }
 {
-    for choice in 0..question.game().choices_of(state) {
-        if kept.keeps(question, state, choice) {
-            return true;
-        }
-    }
-    false
+    (0..question.game().choices_of(state)).any(|choice| kept.keeps(question, state, choice))
 }
 
 /// Returns the most steps of a search: one for each edge, choice and state, and one to see that the path is empty.

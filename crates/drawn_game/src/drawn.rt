@@ -74,11 +74,7 @@ impl Drawn {
 fn marks_of(alloc: Global, marked: u32, states: u32) -> Result<Vec<bool>, AllocError>
     ensures { IfOk result (λ marks. marks.items ≡ map (λ s. s == marked) (range_with_len 0 states)) }
 {
-    let mut marks = Vec::with_capacity(alloc, states as usize)?;
-    for state in 0..states {
-        marks.push(state == marked)?;
-    }
-    Ok(marks)
+    (0..states).map(|state| state == marked).collect(alloc)
 }
 
 /// Draws the game of a seed. It fails only if memory runs out.

@@ -1,6 +1,0 @@
-use Rattle.std.proofs.Common.{arith}
-use Rattle.std.proofs.lemmas.Grind.{common_steps}
-use Rattle.bounded_rounds.proofs.values.opening_of.Goals as goal
-
-pub loop-state-preserved : goal.loop-state-preserved
-loop-state-preserved c = grind (arith, common_steps)
