@@ -19,7 +19,7 @@ from gallery.families import agrees
 from toolbox.exact import Problem
 from toolbox.expected import expected_values, plain_expected, turns_paid
 from toolbox.model import CLOSED, COMPUTED, ask
-from toolbox.rewards import Rewards, reward_text, spelt
+from toolbox.rewards import Rewards, text_of
 
 FIRST, WORST = "the first state", "the state of the greatest value"
 CONSENSUS = "PRISM's case study of randomised consensus"
@@ -93,14 +93,6 @@ def rewards_of(model, pays):
         states.append(Fraction(paid[0] if is_even else 0))
         choices.append([Fraction(0)] * len(paid) if is_even else paid)
     return Rewards(states, choices)
-
-
-def text_of(rewards):
-    """The file of these rewards."""
-    spellings = {(state,): spelt(reward) for state, reward in enumerate(rewards.states) if reward}
-    for state, paid in enumerate(rewards.choices):
-        spellings.update({(state, number): spelt(reward) for number, reward in enumerate(paid) if reward})
-    return reward_text(len(rewards.states), spellings)
 
 
 def texts(model, family, sizes):

@@ -6,11 +6,11 @@ from fractions import Fraction
 from itertools import product
 
 from gallery.families import coin, die
+from toolbox.certificates import decimal
 from toolbox.exact import Problem
 from toolbox.expected import INFINITE, expected_values, plain_expected, split, turns_paid, values_of_pair
 from toolbox.model import HALF, Model, ask
 from toolbox.reward_certificates import Audit, Certificate, Refused, certificate_of, certificate_text, read_certificate
-from toolbox.reward_certificates import value_text
 from toolbox.rewards import Rewards, no_rewards
 
 GAMES, MUTANTS = 60, 40
@@ -166,7 +166,7 @@ class Certificates(unittest.TestCase):
         problem = Problem(model, ask("Pmax=?", "goal"))
         for places, lower, upper in ((0, "0", "2"), (1, "1.0", "1.0")):
             made = certificate_of(problem, rewards, places)
-            self.assertEqual([value_text(table[0], places) for table in (made.lower, made.upper)], [lower, upper])
+            self.assertEqual([decimal(table[0], places) for table in (made.lower, made.upper)], [lower, upper])
         for lower, upper, cause in ((1, 2, "Short state 0 choice 0"), (0, 1, "Above state 0 choice 0")):
             with self.assertRaisesRegex(Refused, cause):
                 Audit(problem, rewards, Certificate(0, [lower, 0], [0, None], [1, 0], [upper, 0], [None] * 2)).judge()

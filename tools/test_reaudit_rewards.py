@@ -5,12 +5,12 @@ import random
 from fractions import Fraction
 
 from gallery.families import coin, die
-from gallery.rewards import text_of
+from toolbox.certificates import decimal
 from toolbox.exact import Problem
 from toolbox.model import HALF, Model, ask
-from toolbox.reward_certificates import Audit, Refused, certificate_of, certificate_text, read_certificate, value_text
+from toolbox.reward_certificates import Audit, Refused, certificate_of, certificate_text, read_certificate
 from toolbox.rewards import Refused as RefusedRewards
-from toolbox.rewards import Rewards, read_rewards
+from toolbox.rewards import Rewards, read_rewards, text_of
 from toolbox.testing import InFolder, call_tool, load
 from tools.test_expected import DUEL_CERTIFICATE, REFUSED, WAITING, drawn_game, duel_game, each_turn, model_of, mutated
 from tools.test_rewards import FAULTS
@@ -219,7 +219,7 @@ class Alike(InGame):
         except Refused as refused:
             return str(refused)
         tables = (certificate.lower, certificate.upper)
-        return " ".join(["state 0", *map(value_text, (table[0] for table in tables), [certificate.places] * 2)])
+        return " ".join(["state 0", *map(decimal, (table[0] for table in tables), [certificate.places] * 2)])
 
     def second(self, question, text):
         path = self.folder / "certificate"
