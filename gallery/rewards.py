@@ -19,7 +19,7 @@ from gallery.families import agrees
 from toolbox.exact import Problem
 from toolbox.expected import expected_values, plain_expected, turns_paid
 from toolbox.model import CLOSED, COMPUTED, ask
-from toolbox.rewards import Rewards, reward_text, spelt
+from toolbox.rewards import Rewards, text_of
 
 FIRST, WORST = "the first state", "the state of the greatest value"
 CONSENSUS = "PRISM's case study of randomised consensus"
@@ -31,6 +31,9 @@ EXPECTED = (
     Expected("die", (6,), "tosses", "Rmax=?", "done", "11/3", "Knuth and Yao 1976"),
     Expected("die", (8,), "tosses", "Rmin=?", "done", "3", CLOSED),
     Expected("die", (11,), "tosses", "Rmax=?", "done", "160/33", CLOSED),
+    Expected("chain", (3,), "steps", "Rmax=?", "end", "10", CLOSED),
+    Expected("chain", (10,), "steps", "Rmin=?", "end", "1534", CLOSED),
+    Expected("chain", (20, "0.7"), "steps", "Rmax=?", "end", "1572862", CLOSED),
     Expected("coin", (2, 2), "steps", "Rmax=?", "finished", "75", CONSENSUS),
     Expected("coin", (2, 2), "steps", "Rmin=?", "finished", "48", CONSENSUS),
     Expected("coin", (2, 4), "steps", "Rmax=?", "finished", "243", COMPUTED),
@@ -93,14 +96,6 @@ def rewards_of(model, pays):
         states.append(Fraction(paid[0] if is_even else 0))
         choices.append([Fraction(0)] * len(paid) if is_even else paid)
     return Rewards(states, choices)
-
-
-def text_of(rewards):
-    """The file of these rewards."""
-    spellings = {(state,): spelt(reward) for state, reward in enumerate(rewards.states) if reward}
-    for state, paid in enumerate(rewards.choices):
-        spellings.update({(state, number): spelt(reward) for number, reward in enumerate(paid) if reward})
-    return reward_text(len(rewards.states), spellings)
 
 
 def texts(model, family, sizes):

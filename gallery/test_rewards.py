@@ -4,9 +4,9 @@ import unittest
 from fractions import Fraction
 
 from gallery.families import die, zeroconf
-from gallery.rewards import EXPECTED, is_right, paying, rewards_of, text_of, texts
+from gallery.rewards import EXPECTED, is_right, paying, rewards_of, texts
 from toolbox.expected import expected_values, turns_paid
-from toolbox.rewards import read_rewards
+from toolbox.rewards import read_rewards, text_of
 
 
 class Known(unittest.TestCase):

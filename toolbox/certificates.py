@@ -1,7 +1,7 @@
 """Certificates, read from their text in the form that `stogame` writes and audits.
 
-Form alone is looked at here; whether a certificate is right `stogame audit` says. Bounds are whole numbers of units of
-10^-15.
+Form alone is looked at here; whether a certificate is right an audit says. Bounds are whole numbers of units of 10^-15,
+and of expected rewards of units of their own places, or INFINITE; an infinite upper one says that none is claimed.
 """
 
 import re
@@ -9,21 +9,24 @@ from array import array
 from collections import namedtuple
 
 from toolbox.endings import Refusal, tell
-from toolbox.explicit import open_bytes, shown
+from toolbox.explicit import open_bytes, shown, whole
 from toolbox.formulas import asked, spelt_plainly
+from toolbox.reward_formulas import rewards_asked
+from toolbox.rewards import INFINITE
 
-UNIT = 10**15
+UNIT, PLACES = 10**15, 15
 DECIMALS = {b"1": 12, b"2": 15}
 GREATEST_CHOICE = 16_383
 GREATEST_RANK = 2**32 - 1
 
 MAXIMISER, MINIMISER = "maximiser", "minimiser"
 
-Certificate = namedtuple("Certificate", "name formula line version lower choices ranks upper replies")
+Certificate = namedtuple("Certificate", "name formula line is_paid places lower choices ranks upper replies")
 Certificate.__doc__ = """The tables of a certificate, each in the order of the states; a choice or reply that is not
 named is None.
 
-`formula` is the text behind the last `formula` before it, or None; `line` is the number of its first line.
+`formula` is the text behind the last `formula` before it, or None; `line` is the number of its first line; `is_paid`
+says whether it is one of rewards, and `places` how many a unit has.
 """
 
 
@@ -36,9 +39,9 @@ def read_certificate(name):
         word, _, rest = line.strip().partition(b" ")
         if word == b"formula":
             formula = rest.decode("ascii", "backslashreplace").strip()
-        if line.split()[:1] == [b"certificate"]:
+        if line.split()[:1] in ([b"certificate"], [b"rewards"]):
             return entries_of(name, formula, number, lines)
-    raise Refusal(name, None, "no line begins with 'certificate'")
+    raise Refusal(name, None, "no line begins with 'certificate' or 'rewards'")
 
 
 def certificate_said(tool, name, formula):
@@ -46,7 +49,7 @@ def certificate_said(tool, name, formula):
     there is one. Of `G`, whose dual the certificate is of, it is mirrored, which the tool tells."""
     found = read_certificate(name)
     text = formula or found.formula
-    question = asked(text) if text else None
+    question = (rewards_asked if found.is_paid else asked)(text) if text else None
     if question and question.path == "G":
         changes = "here its bounds are 1 less and exchanged, and so are maximiser and minimiser"
         tell(tool, f"{name}: the certificate is of the dual of {text}; {changes}")
@@ -69,17 +72,14 @@ def mirrored(certificate):
 
 def entries_of(name, formula, first, lines):
     """The certificate that begins at this line."""
-    head = lines[first - 1].split()
-    if len(head) != 3 or head[1] not in DECIMALS or not head[2].isdigit():
-        raise Refusal(
-            name, first, f"{shown(lines[first - 1].strip())} is no 'certificate 2 N' and no 'certificate 1 N'"
-        )
-    states = whole(head[2])
-    found = Certificate(name, formula, first, int(head[1]), array("q"), [], array("q"), array("q"), [])
-    form = entry_form(DECIMALS[head[1]])
+    is_paid, decimals, states = head_of(name, first, lines[first - 1])
+    bounds = ([], []) if is_paid else (array("q"), array("q"))
+    places = decimals if is_paid else PLACES
+    found = Certificate(name, formula, first, is_paid, places, bounds[0], [], array("q"), bounds[1], [])
+    form = entry_form(reward_form(decimals) if is_paid else rb"[0-9]\.[0-9]{%d}" % decimals)
     for number, line in enumerate(lines[first:], first + 1):
         if len(found.ranks) < states:
-            add_entry(found, number, form.match(line), DECIMALS[head[1]])
+            add_entry(found, number, form.match(line), decimals)
         elif line.strip():
             raise Refusal(name, number, f"more behind the line of the last state, {states - 1}")
     if len(found.ranks) < states:
@@ -87,9 +87,27 @@ def entries_of(name, formula, first, lines):
     return found
 
 
-def entry_form(decimals):
+def head_of(name, first, line):
+    """Whether a first line is of rewards, how many decimals the bounds have, and how many states there are."""
+    head, fits = line.split(), "'certificate 2 N' and no 'certificate 1 N'"
+    if head[0] == b"certificate" and len(head) == 3 and head[1] in DECIMALS and head[2].isdigit():
+        return False, DECIMALS[head[1]], whole(head[2])
+    if head[0] == b"rewards":
+        fits = f"'rewards 1 D N' with D up to {PLACES}"
+        numbers = b"".join(head[2:])
+        if len(head) == 4 and head[1] == b"1" and numbers.isdigit() and whole(head[2]) <= PLACES:
+            return True, whole(head[2]), whole(head[3])
+    raise Refusal(name, first, f"{shown(line.strip())} is no {fits}")
+
+
+def reward_form(decimals):
+    """A value of rewards."""
+    return rb"infinite|(?:0|[1-9][0-9]*)" + (rb"\.[0-9]{%d}" % decimals if decimals else b"")
+
+
+def entry_form(bound):
     """A line of a state: its number, lower bound, choice, rank, upper bound and reply."""
-    value, number, choice = rb"([0-9]\.[0-9]{%d})" % decimals, rb"([0-9]+)", rb"(-|[0-9]+)"
+    value, number, choice = b"(%b)" % bound, rb"([0-9]+)", rb"(-|[0-9]+)"
     return re.compile(rb"[ \t]*" + rb"[ \t]+".join([number, value, choice, number, value, choice]) + rb"\s*\Z")
 
 
@@ -99,11 +117,14 @@ def add_entry(found, number, line, decimals):
         raise Refusal(
             found.name, number, f"no line of state {state}: number, lower bound, choice, rank, upper bound, reply"
         )
-    lower, upper = (int(line[place].replace(b".", b"")) * 10 ** (15 - decimals) for place in (2, 5))
+    lower, upper = (units_of(line[place]) * 10 ** (found.places - decimals) for place in (2, 5))
     choice, reply = (None if line[place] == b"-" else whole(line[place]) for place in (3, 6))
     rank = whole(line[4])
-    if max(lower, upper) > UNIT or max(choice or 0, reply or 0) > GREATEST_CHOICE or rank > GREATEST_RANK:
+    is_above = any(UNIT < bound < INFINITE for bound in (lower, upper))
+    if is_above or max(choice or 0, reply or 0) > GREATEST_CHOICE or rank > GREATEST_RANK:
         raise Refusal(found.name, number, f"a number of state {state} is above its limit")
+    if upper < lower == INFINITE:
+        raise Refusal(found.name, number, f"state {state} has an upper bound below a lower one that is infinite")
     found.lower.append(lower)
     found.choices.append(choice)
     found.ranks.append(rank)
@@ -111,17 +132,20 @@ def add_entry(found, number, line, decimals):
     found.replies.append(reply)
 
 
-def whole(digits):
-    """A whole number; one of more than forty digits stands for those above every limit."""
-    return int(digits.lstrip(b"0")[:40] or b"0")
+def units_of(bound):
+    return INFINITE if bound == b"infinite" else whole(bound.replace(b".", b""))
 
 
 def line_of(certificate, state):
     return certificate.line + 1 + state
 
 
-def decimal(units):
-    return f"{units // UNIT}.{units % UNIT:015}"
+def decimal(units, places=PLACES):
+    """A bound in units of so many places, in decimals."""
+    if units == INFINITE:
+        return "infinite"
+    digits = f"{units:0{places + 1}}"
+    return f"{digits[:-places]}.{digits[-places:]}" if places else digits
 
 
 def movers_of(certificate, maximises):

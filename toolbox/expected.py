@@ -7,12 +7,10 @@ answer, from replies that reach (strategy iteration, as `toolbox/exact.py` has i
 less keeps them reaching, since who stays away for ever on finite rewards gains nothing by it.
 """
 
-import math
 from collections import namedtuple
 
 from toolbox.exact import floating, solved, weighted_sum
-
-INFINITE = math.inf
+from toolbox.rewards import INFINITE
 
 
 def turns_paid(rewards):

@@ -182,6 +182,11 @@ def decimal_of(spelling, kind):
     return (numerator * 10**exponent, 1) if exponent >= 0 else (numerator, 10**-exponent)
 
 
+def whole(digits):
+    """A whole number; one of more than forty digits stands for those above every limit."""
+    return int(digits.lstrip(b"0")[:40] or b"0")
+
+
 def checked_digits(digits):
     if len(digits) > MOST_DIGITS:
         raise ValueError("too many digits")

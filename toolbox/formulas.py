@@ -14,6 +14,7 @@ from toolbox.endings import Refusal
 from toolbox.explicit import fraction_of
 
 OPPOSITES = {">=": "<=", "<=": ">=", ">": "<", "<": ">", "Pmax": "Pmin", "Pmin": "Pmax"}
+MOST = ("Pmax", "Rmax")
 FAILS = {">=": "<", ">": "<=", "<=": ">", "<": ">="}
 COMPARED = {">=": operator.ge, "<=": operator.le, ">": operator.gt, "<": operator.lt}
 LEVELS = ("=>", "|", "&")
@@ -69,8 +70,8 @@ class Formula:
         speaks of all strategies.
         """
         if self.coalition is None:
-            return self.bound in ("<=", "<", "Pmax")
-        return (player in self.coalition) == (self.bound in (">=", ">", "Pmax"))
+            return self.bound in ("<=", "<", *MOST)
+        return (player in self.coalition) == (self.bound in (">=", ">", *MOST))
 
     def is_true_of(self, value):
         return COMPARED[self.bound](value, self.limit)
@@ -86,11 +87,13 @@ class Formula:
     def formula(self):
         """The one spelling."""
         team = "" if self.coalition is None else f"<<{','.join(self.coalition)}>> "
-        bound = f"{self.bound}=?" if self.limit is None else f"P{self.bound}{self.limit}"
         within = "" if self.steps is None else f"<={self.steps}"
         sign = "F" if self.path == "U" and self.left == TRUE else self.path
         left = f"{spelt(self.left)} " if sign == "U" else ""
-        return f"{team}{bound} [ {left}{sign}{within} {spelt(self.right)} ]"
+        return f"{team}{self.bound_text()} [ {left}{sign}{within} {spelt(self.right)} ]"
+
+    def bound_text(self):
+        return f"{self.bound}=?" if self.limit is None else f"P{self.bound}{self.limit}"
 
     def certified(self):
         """What a certificate of this formula is of: the question itself, or of `G` its dual."""

@@ -9,10 +9,11 @@ import re
 from collections import namedtuple
 from copy import copy
 
-from toolbox.certificates import GREATEST_CHOICE, GREATEST_RANK, whole
+from toolbox.certificates import GREATEST_CHOICE, GREATEST_RANK, decimal
 from toolbox.exact import weighted_sum
-from toolbox.expected import INFINITE, attracted, split, turns_paid, values_and_strategy
-from toolbox.rewards import rows_of
+from toolbox.expected import attracted, split, turns_paid, values_and_strategy
+from toolbox.explicit import whole
+from toolbox.rewards import INFINITE, rows_of
 
 MOST_UNITS, MOST_PLACES = 10**15, 15
 
@@ -33,19 +34,12 @@ def refuse(is_fault, cause, line=0):
         raise Refused(line, cause)
 
 
-def value_text(units, places):
-    if units == INFINITE:
-        return "infinite"
-    digits = f"{units:0{places + 1}}"
-    return f"{digits[:-places]}.{digits[-places:]}" if places else digits
-
-
 def certificate_text(certificate):
     places, *tables = certificate
     lines = [f"rewards 1 {places} {len(certificate.lower)}\n"]
     for state, (lower, choice, rank, upper, reply) in enumerate(zip(*tables)):
         named = ["-" if number is None else str(number) for number in (choice, reply)]
-        low, high = value_text(lower, places), value_text(upper, places)
+        low, high = decimal(lower, places), decimal(upper, places)
         lines.append(f"{state} {low} {named[0]} {rank} {high} {named[1]}\n")
     return "".join(lines)
 

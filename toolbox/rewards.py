@@ -3,15 +3,15 @@
 Rewards are exact. That of a turn is the reward of its state and that of the choice, in one sum.
 """
 
+import math
 import re
 from collections import namedtuple
 from fractions import Fraction
 
-from toolbox.certificates import whole
 from toolbox.drawn import lines_of
-from toolbox.explicit import MOST_DENOMINATOR, MOST_DIGITS
+from toolbox.explicit import MOST_DENOMINATOR, MOST_DIGITS, whole
 
-MOST_REWARD = 10**15
+MOST_REWARD, INFINITE = 10**15, math.inf
 MOST_LINES = 8_000_000
 FIELD = re.compile(rb"[^ \t]+")
 NUMBER = re.compile(rb"([0-9]+)(?:/([0-9]+)|(?:\.([0-9]*))?(?:[eE]([+-]?)([0-9]+))?)")
@@ -49,6 +49,14 @@ def reward_text(states, spellings):
     """The text of a file; `spellings` has those of rewards by a state, and of choices by a state and a choice."""
     lines = [f"{' '.join(map(str, place))} {spellings[place]}\n" for place in sorted(spellings)]
     return "".join([f"rewards {states} {len(lines)}\n", *lines])
+
+
+def text_of(rewards):
+    """The text of a file of these rewards."""
+    spellings = {(state,): spelt(reward) for state, reward in enumerate(rewards.states) if reward}
+    for state, paid in enumerate(rewards.choices):
+        spellings.update({(state, number): spelt(reward) for number, reward in enumerate(paid) if reward})
+    return reward_text(len(rewards.states), spellings)
 
 
 # Read

@@ -6,6 +6,7 @@ import re
 
 from toolbox.endings import Refusal
 from toolbox.explicit import field_rows, header_of, open_bytes, shown, write_files
+from toolbox.rewards import Refused, read_rewards, text_of
 
 LINE = re.compile(r"(?:([0-9]+)|\(([^()]*)\))\s*[:=\s]\s*(\S+)\Z")
 
@@ -158,15 +159,30 @@ def check_choices(names, moves, where):
             raise Refusal(*where(state), str(fault)) from None
 
 
-def write_induced(out, words, chosen):
-    """Writes the induced model as OUT.tra, the labels as OUT.lab and the owners, where there are, as OUT.own;
-    gives their names."""
-    files = [f"{out}.tra", f"{out}.lab"] + ([f"{out}.own"] if words.own else [])
-    if set(files) & {words.tra, words.lab, words.own}:
+def write_induced(out, words, chosen, paid=None):
+    """Writes the induced model as OUT.tra, the labels as OUT.lab, the owners, where there are, as OUT.own, and what is
+    paid, where there is such a text, as OUT.rewards; gives their names."""
+    texts = {f"{out}.tra": transition_text(words.tra, chosen), f"{out}.lab": copied(words.lab)}
+    if words.own:
+        texts[f"{out}.own"] = copied(words.own)
+    if paid:
+        texts[f"{out}.rewards"] = [paid]
+    if set(texts) & {words.tra, words.lab, words.own, vars(words).get("rewards")}:
         raise Refusal(out, None, "this would write over a file of the model")
-    texts = [transition_text(words.tra, chosen), copied(words.lab)] + ([copied(words.own)] if words.own else [])
-    write_files(list(zip(files, texts)))
-    return files
+    write_files(list(texts.items()))
+    return list(texts)
+
+
+def induced_rewards(name, model, chosen):
+    """The text of a file of rewards for the induced model, in which choices have other numbers."""
+    counts = [len(model.choices_of(state)) for state in range(model.states)]
+    with open_bytes(name) as file:
+        try:
+            rewards = read_rewards(file.read(), counts)
+        except Refused as fault:
+            raise Refusal(name, fault.args[0] or None, fault.args[1]) from None
+    left = [paid if move is None else [paid[move]] for paid, move in zip(rewards.choices, chosen)]
+    return text_of(rewards._replace(choices=left))
 
 
 def copied(name):

@@ -6,11 +6,11 @@ from fractions import Fraction
 from itertools import product
 
 from gallery.families import coin, die
+from toolbox.certificates import decimal
 from toolbox.exact import Problem
 from toolbox.expected import INFINITE, expected_values, plain_expected, split, turns_paid, values_of_pair
 from toolbox.model import HALF, Model, ask
 from toolbox.reward_certificates import Audit, Certificate, Refused, certificate_of, certificate_text, read_certificate
-from toolbox.reward_certificates import value_text
 from toolbox.rewards import Rewards, no_rewards
 
 GAMES, MUTANTS = 60, 40
@@ -86,12 +86,18 @@ def values(model, bound, goal, rewards):
     return expected_values(Problem(model, ask(bound, goal)), turns_paid(rewards))
 
 
-def duel():
-    """The problem and the rewards of the duel."""
+def duel_game():
+    """The model and the rewards of the duel."""
     model = model_of(DUEL, ["anna", "bert"], lambda name: "bert" if name == "min" else "anna")
     rewards = no_rewards(list(map(len, model.choices)))
     for (name, choice), pay in DUEL_PAYS.items():
         rewards.choices[model.names.index(name)][choice] = Fraction(pay)
+    return model, rewards
+
+
+def duel():
+    """The problem and the rewards of the duel."""
+    model, rewards = duel_game()
     return Problem(model, ask("Pmax=?", "goal", coalition=("anna",))), rewards
 
 
@@ -160,7 +166,7 @@ class Certificates(unittest.TestCase):
         problem = Problem(model, ask("Pmax=?", "goal"))
         for places, lower, upper in ((0, "0", "2"), (1, "1.0", "1.0")):
             made = certificate_of(problem, rewards, places)
-            self.assertEqual([value_text(table[0], places) for table in (made.lower, made.upper)], [lower, upper])
+            self.assertEqual([decimal(table[0], places) for table in (made.lower, made.upper)], [lower, upper])
         for lower, upper, cause in ((1, 2, "Short state 0 choice 0"), (0, 1, "Above state 0 choice 0")):
             with self.assertRaisesRegex(Refused, cause):
                 Audit(problem, rewards, Certificate(0, [lower, 0], [0, None], [1, 0], [upper, 0], [None] * 2)).judge()
@@ -174,7 +180,7 @@ class Certificates(unittest.TestCase):
 # Random games
 
 
-def drawn_problem(draw):
+def drawn_game(draw):
     """A small game whose last state is the goal, and rewards of which half are 0."""
     while True:
         count = draw.randint(2, 5)
@@ -183,8 +189,12 @@ def drawn_problem(draw):
         model = Model(0, rule.get, {"goal": (count - 1).__eq__}, ["a", "b"], owners.__getitem__)
         if (count - 1) in model.names:
             paid = [[draw.choice(PAYS) for _ in choices] for choices in model.choices]
-            rewards = Rewards([draw.choice(PAYS) for _ in model.names], paid)
-            return Problem(model, ask("Pmax=?", "goal", coalition=("a",))), rewards
+            return model, Rewards([draw.choice(PAYS) for _ in model.names], paid)
+
+
+def drawn_problem(draw):
+    model, rewards = drawn_game(draw)
+    return Problem(model, ask("Pmax=?", "goal", coalition=("a",))), rewards
 
 
 def drawn_choice(draw, count):

@@ -56,7 +56,7 @@ INDUCED = [
 
 # Each row has a tool, the text of a certificate, further words, and the one line that the tool writes.
 REFUSED = [
-    ("table", "nothing\n", [], "no line begins with 'certificate'"),
+    ("table", "nothing\n", [], "no line begins with 'certificate' or 'rewards'"),
     ("table", "certificate 3 4\n", [], "line 1: 'certificate 3 4' is no 'certificate 2 N' and no 'certificate 1 N'"),
     ("table", SAID.replace("\n3 0", "\n4 0"), [],
      "line 6: no line of state 3: number, lower bound, choice, rank, upper bound, reply"),

@@ -15,6 +15,9 @@ LENGTH 20, and below 1/2 for each smaller one. What it has reached by then is th
 reached within k steps with f(k), by symmetry twice that value: f(k) = f(k - 2) / 2 + .. + f(k - LENGTH) / 2 ^ (LENGTH -
 1) + 1 / 2 ^ (LENGTH - 1) for k >= LENGTH, else 0, since the first step back to the middle is step 2, or 3, .. or
 LENGTH, or there is none.
+
+Expected steps: 3 * 2 ^ (LENGTH - 1) - 2 to an end, with any CHANCE. A try from the middle gets there with 1 / 2 ^
+(LENGTH - 1), and has 1 + 1 + 1/2 + .. + 1 / 2 ^ (LENGTH - 2) steps on average.
 """
 
 from fractions import Fraction
@@ -70,6 +73,10 @@ def questions_of_chance(length, chance):
     yield ask("P>=0.5", "goal", chance, CLOSED)
     yield ask("P<0.75", "goal", chance, CLOSED)
     yield sure("P>=1", "end", value=1, source=CLOSED)
+
+
+def rewards(length, *_):
+    return {"steps": lambda state, after: state not in (0, 2 * length)}
 
 
 def known_as(length, chance=HALF):
