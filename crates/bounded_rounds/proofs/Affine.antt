@@ -1,28 +1,27 @@
 -- One step from values that are tied by an inequality with a remainder.
 use Rattle.std.proofs.Common.{ℕ, ◌+◌, ◌*◌, ◌≤◌, true, false, List, arith}
-use Rattle.std.specs.List.{AllByRecursion}
+use Rattle.std.specs.List.{All}
 use Rattle.std.specs.Bool.{if◌then◌else◌}
 use Rattle.game_model.specs.declared.game.Side.{Side}
 use Rattle.game_model.specs.Game.{Distribution}
 use Rattle.game_model.specs.Query.{Query, is_goal, is_dead, side_at}
 use Rattle.game_model.specs.Values.{optimum, bellman}
-use Rattle.game_model.proofs.Each.{AllByRecursion-always, AllByRecursion-weaker}
 use Rattle.game_model.proofs.Best.{optimum-le, optimum-plus}
 
 -- the optimum of values that are tied like this
 pub optimum-affine : {X : Type 0} (side : Side) (f g : X → ℕ) (a b c : ℕ) (xs : List X)
-    → AllByRecursion (λ y. a * f y ≤ b * g y + c) xs → a * optimum side f xs ≤ b * optimum side g xs + c
-optimum-affine {X} side f g a b c xs each =
+    → All (λ y. a * f y ≤ b * g y + c) xs → a * optimum side f xs ≤ b * optimum side g xs + c
+optimum-affine side f g a b c xs each =
     let raised : a * optimum side f xs ≤ 1 * optimum side (λ y. b * g y + c) xs =
     optimum-le side f (λ y. b * g y + c) a 1 xs
-    (AllByRecursion-weaker (λ (y : X). a * f y ≤ b * g y + c) _ (λ y h. omega arith) xs each) in
+    (λ i d l. omega (arith, each i d l)) in
     let scaled : 1 * optimum side (λ y. b * g y) xs ≤ b * optimum side g xs =
-    optimum-le side (λ y. b * g y) g 1 b xs (AllByRecursion-always _ (λ y. omega arith) xs) in
+    optimum-le side (λ y. b * g y) g 1 b xs (λ i d l. omega arith) in
     omega (arith, raised, scaled, optimum-plus side (λ y. b * g y) c xs)
 
 -- one step from such values
 pub bellman-affine : (q : Query) (choices : ℕ → List Distribution) (a b c top top' : ℕ) (f g : Distribution → ℕ) (s : ℕ)
-    → a * top ≤ b * top' + c → AllByRecursion (λ m. a * f m ≤ b * g m + c) (choices s)
+    → a * top ≤ b * top' + c → All (λ m. a * f m ≤ b * g m + c) (choices s)
     → a * bellman q choices top f s ≤ b * bellman q choices top' g s + c
 bellman-affine q choices a b c top top' f g s at_goal each =
     elim (is_goal q s)

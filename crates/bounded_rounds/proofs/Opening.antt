@@ -1,8 +1,9 @@
 -- Exact values from the opening table of iteration, and from the units of the states to come to next.
 use Rattle.std.proofs.Common.{◌≡◌, ℕ, zero, suc, ◌*◌, ◌/◌, ◌^◌, ◌<◌, ◌≤◌, Bool, true, false, List, [], ◌∷◌, arith, ap}
-use Rattle.std.proofs.Common.{◌∙◌, refl, sum_by}
-use Rattle.std.specs.List.{AllByRecursion}
+use Rattle.std.proofs.Common.{◌∙◌, refl, get_or, sum_by}
+use Rattle.std.specs.List.{All}
 use Rattle.std.specs.Bool.{if◌then◌else◌}
+use Rattle.std.proofs.lemmas.List.Elements.{All-head, All-tail}
 use Rattle.std.proofs.lemmas.List.Sums.{sum_by-cons}
 use Rattle.game_model.specs.declared.game.Edge.{Edge}
 use Rattle.game_model.specs.declared.game.Side.{Side}
@@ -11,7 +12,6 @@ use Rattle.game_model.specs.Query.{Query, IsQuery, states, is_goal, is_dead, sid
 use Rattle.game_model.specs.Values.{optimum, weighted_sum, bellman, denominator, numerator_of, numerator}
 use Rattle.game_model.specs.Limits.{unit}
 use Rattle.game_model.specs.Rounded.{down_steps, opening}
-use Rattle.game_model.proofs.Each.{AllByRecursion-always, AllByRecursion-weaker}
 use Rattle.game_model.proofs.Choices.{IsChoiceOf, AreChoicesOf, AreChoicesOf-choices_of}
 use Rattle.game_model.proofs.Best.{optimum-le}
 use Rattle.bounded_rounds.specs.Steps.{steps_from, down_from}
@@ -20,25 +20,29 @@ use Rattle.bounded_rounds.proofs.Stepping.{step_of-same}
 
 -- a sum whose terms are multiples of others
 weighted_sum-scaled : (v : ℕ → ℕ) (c : ℕ) (term : Edge → ℕ) (edges : List Edge)
-    → AllByRecursion (λ e. e.weight * v e.to ≡ c * term e) edges → weighted_sum v edges ≡ c * sum_by term edges
+    → All (λ e. e.weight * v e.to ≡ c * term e) edges → weighted_sum v edges ≡ c * sum_by term edges
 weighted_sum-scaled v c term [] h = omega arith
 weighted_sum-scaled v c term (e ∷ es) h =
     rw (sum_by-cons (λ (d : Edge). d.weight * v d.to) e es, sum_by-cons term e es)
-    (omega (arith, h.0, weighted_sum-scaled v c term es h.1))
+    (omega (
+      arith,
+      All-head (λ (d : Edge). d.weight * v d.to ≡ c * term d) e es h,
+      weighted_sum-scaled v c term es (All-tail (λ (d : Edge). d.weight * v d.to ≡ c * term d) e es h),
+    ))
 
 -- the optimum of multiples
-optimum-scaled : {X : Type 0} (side : Side) (f g : X → ℕ) (c : ℕ) (xs : List X) → AllByRecursion (λ y. f y ≡ c * g y) xs
+optimum-scaled : {X : Type 0} (side : Side) (f g : X → ℕ) (c : ℕ) (xs : List X) → All (λ y. f y ≡ c * g y) xs
     → optimum side f xs ≡ c * optimum side g xs
-optimum-scaled {X} side f g c xs each =
+optimum-scaled side f g c xs each =
     let most : 1 * optimum side f xs ≤ c * optimum side g xs =
-    optimum-le side f g 1 c xs (AllByRecursion-weaker (λ (y : X). f y ≡ c * g y) _ (λ y e. omega arith) xs each) in
+    optimum-le side f g 1 c xs (λ i d l. omega (arith, each i d l)) in
     let least : c * optimum side g xs ≤ 1 * optimum side f xs =
-    optimum-le side g f c 1 xs (AllByRecursion-weaker (λ (y : X). f y ≡ c * g y) _ (λ y e. omega arith) xs each) in
+    optimum-le side g f c 1 xs (λ i d l. omega (arith, each i d l)) in
     omega arith
 
 -- one step from multiples
 bellman-scaled : (q : Query) (choices : ℕ → List Distribution) (c top : ℕ) (f g : Distribution → ℕ) (s : ℕ)
-    → AllByRecursion (λ m. f m ≡ c * g m) (choices s) → bellman q choices (c * top) f s ≡ c * bellman q choices top g s
+    → All (λ m. f m ≡ c * g m) (choices s) → bellman q choices (c * top) f s ≡ c * bellman q choices top g s
 bellman-scaled q choices c top f g s each =
     elim (is_goal q s)
     as (λ goal. (if goal then c * top else (if is_dead q s then 0 else optimum (side_at q s) f (choices s)))
@@ -65,11 +69,14 @@ exact_from-opening q zero s = opening-scaled (is_goal q s) unit
 exact_from-opening q (suc k) s =
     let D : ℕ = denominator q.game in
     bellman-scaled q (choices_of q.game) unit (D ^ suc k) _ (λ m. D / m.total * weighted_sum (numerator q k) m.edges) s
-    (AllByRecursion-always _ (λ m. factor-out (D / m.total) (weighted_sum (exact_from q (opening q) k) m.edges) unit
+    (λ i d l.
+    let m : Distribution = get_or (choices_of q.game s) i d in
+    factor-out (D / m.total) (weighted_sum (exact_from q (opening q) k) m.edges) unit
     (weighted_sum (numerator q k) m.edges)
     (weighted_sum-scaled (exact_from q (opening q) k) unit (λ e. e.weight * numerator q k e.to) m.edges
-    (AllByRecursion-always _ (λ e. factor-out e.weight (exact_from q (opening q) k e.to) unit (numerator q k e.to)
-    (exact_from-opening q k e.to)) m.edges))) (choices_of q.game s))
+    (λ p none _.
+    let e : Edge = get_or m.edges p none in
+    factor-out e.weight (exact_from q (opening q) k e.to) unit (numerator q k e.to) (exact_from-opening q k e.to))))
 
 -- and the down steps are those of iteration
 pub down_from-opening : (q : Query) → IsQuery q → (k s : ℕ) → down_from q (opening q) k s ≡ down_steps q k s
@@ -97,9 +104,12 @@ exact_from-next q opens holds posed next s inside =
     (next.goals s inside) (next.deads s inside)
     ∙ optimum-scaled (side_at q s) (λ m. D / m.total * weighted_sum opens m.edges)
     (λ m. D / m.total * sum_by (λ e. if holds e.to then e.weight else 0) m.edges) unit (choices_of q.game s)
-    (AllByRecursion-weaker (IsChoiceOf q.game) _ (λ m fits. factor-out (D / m.total) (weighted_sum opens m.edges) unit
+    (λ i d l.
+    let m : Distribution = get_or (choices_of q.game s) i d in
+    let fits : IsChoiceOf q.game m = chosen.each s i d l in
+    factor-out (D / m.total) (weighted_sum opens m.edges) unit
     (sum_by (λ e. if holds e.to then e.weight else 0) m.edges)
     (weighted_sum-scaled opens unit (λ e. if holds e.to then e.weight else 0) m.edges
-    (AllByRecursion-weaker (λ (e : Edge). e.to < states q) _ (λ e within.
-    ap (λ x. e.weight * x) (next.opens e.to within) ∙ marked-weight (holds e.to) e.weight unit) m.edges fits.inside)))
-    (choices_of q.game s) (chosen.each s))
+    (λ p none within.
+    let e : Edge = get_or m.edges p none in
+    ap (λ x. e.weight * x) (next.opens e.to (fits.inside p none within)) ∙ marked-weight (holds e.to) e.weight unit)))

@@ -1,12 +1,11 @@
 -- How near rounded steps from an opening table are to the exact values.
-use Rattle.std.proofs.Common.{◌≡◌, ℕ, zero, suc, ◌+◌, ◌-◌, ◌*◌, ◌/◌, ◌^◌, ◌<◌, ◌≤◌, List, arith, sum_by, subst}
-use Rattle.std.specs.List.{AllByRecursion}
+use Rattle.std.proofs.Common.{◌≡◌, ℕ, zero, suc, ◌+◌, ◌-◌, ◌*◌, ◌/◌, ◌^◌, ◌<◌, ◌≤◌, List, get_or, arith, sum_by, subst}
+use Rattle.std.specs.List.{All}
 use Rattle.std.proofs.Math.Nat.{mul-le-mul_left, pow-suc, pow-zero, div-mul-le_self, lt-div-mul-add}
 use Rattle.game_model.specs.Game.{Distribution, choices_of}
 use Rattle.game_model.specs.Query.{Query, IsQuery}
 use Rattle.game_model.specs.Values.{weighted_sum, denominator}
 use Rattle.game_model.specs.Limits.{unit}
-use Rattle.game_model.proofs.Each.{AllByRecursion-always, AllByRecursion-weaker}
 use Rattle.game_model.proofs.Choices.{IsChoiceOf, AreChoicesOf, AreChoicesOf-choices_of}
 use Rattle.game_model.proofs.Best.{weighted_sum-affine}
 use Rattle.bounded_rounds.specs.Steps.{steps_from}
@@ -28,7 +27,7 @@ sum-tied game u v a b c m fits h =
     let sums : a * weighted_sum u m.edges + 0 * weighted_sum u m.edges
     ≤ b * weighted_sum v m.edges + c * sum_by (λ e. e.weight) m.edges =
     weighted_sum-affine u u v a 0 b c m.edges
-    (AllByRecursion-always _ (λ e. let at : a * u e.to ≤ b * v e.to + c = h e.to in omega arith) m.edges) in
+    (λ i d l. omega (arith, h (get_or m.edges i d).to)) in
     subst (λ n. a * weighted_sum u m.edges ≤ b * weighted_sum v m.edges + c * n) fits.sums (omega arith)
 
 -- a rounded quotient f of x against the scaled sum r * y, where d = r * w
@@ -53,17 +52,19 @@ module _ (round : ℕ → ℕ → ℕ) (e : ℕ) (q : Query) (opening : ℕ → 
       let D : ℕ = denominator q.game in
       let chosen : AreChoicesOf q.game (choices_of q.game) = AreChoicesOf-choices_of q.game posed.game in
       let table : ℕ → ℕ = steps_from (step_of round q) opening k in
-      let each : AllByRecursion (λ m. D ^ k * D * round (weighted_sum table m.edges) m.total
+      let each : All (λ m. D ^ k * D * round (weighted_sum table m.edges) m.total
       ≤ 1 * (D / m.total * weighted_sum (exact_from q opening k) m.edges) + e * suc k * (D ^ k * D))
       (choices_of q.game s) =
-      AllByRecursion-weaker (IsChoiceOf q.game) _ (λ m fits.
+      λ i d l.
+      let m : Distribution = get_or (choices_of q.game s) i d in
+      let fits : IsChoiceOf q.game m = chosen.each s i d l in
       let one : D ^ k * D * round (weighted_sum table m.edges) m.total
       ≤ 1 * (D / m.total * weighted_sum (exact_from q opening k) m.edges) + (e * k * D ^ k * D + e * (D ^ k * D)) =
       quotient-below (round (weighted_sum table m.edges) m.total) m.total (D / m.total) D (D ^ k)
       (weighted_sum table m.edges) (weighted_sum (exact_from q opening k) m.edges) (e * k * D ^ k) e
       (above (weighted_sum table m.edges) m.total fits.positive) fits.divides
       (sum-tied q.game table (exact_from q opening k) (D ^ k) 1 (e * k * D ^ k) m fits
-      (λ t. steps_from-below above k t)) in omega arith) (choices_of q.game s) (chosen.each s) in
+      (λ t. steps_from-below above k t)) in omega arith in
       rw (pow-suc D k) (bellman-affine q (choices_of q.game) (D ^ k * D) 1 (e * suc k * (D ^ k * D)) unit
       (unit * (D ^ k * D)) _ _ s (omega arith) each)
 
@@ -76,16 +77,18 @@ module _ (round : ℕ → ℕ → ℕ) (e : ℕ) (q : Query) (opening : ℕ → 
       let D : ℕ = denominator q.game in
       let chosen : AreChoicesOf q.game (choices_of q.game) = AreChoicesOf-choices_of q.game posed.game in
       let table : ℕ → ℕ = steps_from (step_of round q) opening k in
-      let each : AllByRecursion (λ m. 1 * (D / m.total * weighted_sum (exact_from q opening k) m.edges)
+      let each : All (λ m. 1 * (D / m.total * weighted_sum (exact_from q opening k) m.edges)
       ≤ D ^ k * D * round (weighted_sum table m.edges) m.total + e * suc k * (D ^ k * D)) (choices_of q.game s) =
-      AllByRecursion-weaker (IsChoiceOf q.game) _ (λ m fits.
+      λ i d l.
+      let m : Distribution = get_or (choices_of q.game s) i d in
+      let fits : IsChoiceOf q.game m = chosen.each s i d l in
       let one : 1 * (D / m.total * weighted_sum (exact_from q opening k) m.edges)
       ≤ D ^ k * D * round (weighted_sum table m.edges) m.total + (e * k * D ^ k * D + e * (D ^ k * D)) =
       quotient-above (round (weighted_sum table m.edges) m.total) m.total (D / m.total) D (D ^ k)
       (weighted_sum table m.edges) (weighted_sum (exact_from q opening k) m.edges) (e * k * D ^ k) e
       (below (weighted_sum table m.edges) m.total fits.positive) fits.divides
       (sum-tied q.game (exact_from q opening k) table 1 (D ^ k) (e * k * D ^ k) m fits
-      (λ t. steps_from-above below k t)) in omega arith) (choices_of q.game s) (chosen.each s) in
+      (λ t. steps_from-above below k t)) in omega arith in
       rw (pow-suc D k) (bellman-affine q (choices_of q.game) 1 (D ^ k * D) (e * suc k * (D ^ k * D))
       (unit * (D ^ k * D)) unit _ _ s (omega arith) each)
 

@@ -1,13 +1,11 @@
 -- Steps whose quotients are rounded in one way, over tables that agree at every state.
-use Rattle.std.proofs.Common.{◌≡◌, ℕ, zero, suc, ◌+◌, ◌-◌, ◌*◌, ◌<◌, ◌≤◌, List, arith, ap, sym, subst, ◌∙◌, add-one}
-use Rattle.std.proofs.Common.{add-zero, add-suc}
-use Rattle.std.specs.List.{AllByRecursion}
-use Rattle.game_model.specs.declared.game.Edge.{Edge}
+use Rattle.std.proofs.Common.{◌≡◌, ℕ, zero, suc, ◌+◌, ◌-◌, ◌*◌, ◌<◌, ◌≤◌, List, get_or, arith, ap, sym, subst, ◌∙◌}
+use Rattle.std.proofs.Common.{add-one, add-zero, add-suc}
+use Rattle.std.specs.List.{All}
 use Rattle.game_model.specs.Game.{Distribution, choices_of}
 use Rattle.game_model.specs.Query.{Query, IsQuery, states}
 use Rattle.game_model.specs.Values.{weighted_sum, bellman}
 use Rattle.game_model.specs.Limits.{unit}
-use Rattle.game_model.proofs.Each.{AllByRecursion-weaker}
 use Rattle.game_model.proofs.Choices.{IsChoiceOf, AreChoicesOf, AreChoicesOf-choices_of}
 use Rattle.game_model.proofs.Best.{weighted_sum-le}
 use Rattle.game_model.proofs.Rises.{bellman-le}
@@ -25,8 +23,8 @@ Agree q v w = (s : ℕ) → s < states q → v s ≡ w s
 weighted_sum-most : (q : Query) (v w : ℕ → ℕ) (m : Distribution) → IsChoiceOf q.game m → Agree q v w
     → 1 * weighted_sum v m.edges ≤ 1 * weighted_sum w m.edges
 weighted_sum-most q v w m fits same =
-    weighted_sum-le v w 1 1 m.edges (AllByRecursion-weaker (λ (e : Edge). e.to < states q) _
-    (λ e inside. let at : v e.to ≡ w e.to = same e.to inside in omega arith) m.edges fits.inside)
+    weighted_sum-le v w 1 1 m.edges
+    (λ i d l. omega (arith, same (get_or m.edges i d).to (fits.inside i d l)))
 
 -- a sum over the same values
 pub weighted_sum-same : (q : Query) (v w : ℕ → ℕ) (m : Distribution) → IsChoiceOf q.game m → Agree q v w
@@ -35,18 +33,18 @@ weighted_sum-same q v w m fits same =
     omega (arith, weighted_sum-most q v w m fits same, weighted_sum-most q w v m fits (λ s inside. sym (same s inside)))
 
 bellman-most : (q : Query) (choices : ℕ → List Distribution) (top : ℕ) (f g : Distribution → ℕ) (s : ℕ)
-    → AllByRecursion (λ m. f m ≡ g m) (choices s) → 1 * bellman q choices top f s ≤ 1 * bellman q choices top g s
+    → All (λ m. f m ≡ g m) (choices s) → 1 * bellman q choices top f s ≤ 1 * bellman q choices top g s
 bellman-most q choices top f g s each = bellman-le q choices 1 1 top top f g s (omega arith)
-    (AllByRecursion-weaker (λ m. f m ≡ g m) _ (λ m e. omega arith) (choices s) each)
+    (λ i d l. omega (arith, each i d l))
 
 -- one step from the same values
 pub bellman-same : (q : Query) (choices : ℕ → List Distribution) (top : ℕ) (f g : Distribution → ℕ) (s : ℕ)
-    → AllByRecursion (λ m. f m ≡ g m) (choices s) → bellman q choices top f s ≡ bellman q choices top g s
+    → All (λ m. f m ≡ g m) (choices s) → bellman q choices top f s ≡ bellman q choices top g s
 bellman-same q choices top f g s each =
     omega (
       arith,
       bellman-most q choices top f g s each,
-      bellman-most q choices top g f s (AllByRecursion-weaker (λ m. f m ≡ g m) _ (λ m e. sym e) (choices s) each),
+      bellman-most q choices top g f s (λ i d l. sym (each i d l)),
     )
 
 module _ (round : ℕ → ℕ → ℕ) (q : Query) (posed : IsQuery q) where
@@ -54,8 +52,9 @@ module _ (round : ℕ → ℕ → ℕ) (q : Query) (posed : IsQuery q) where
   step_of-same v w same s =
       let chosen : AreChoicesOf q.game (choices_of q.game) = AreChoicesOf-choices_of q.game posed.game in
       bellman-same q (choices_of q.game) unit _ _ s
-      (AllByRecursion-weaker (IsChoiceOf q.game) _
-      (λ m fits. ap (λ x. round x m.total) (weighted_sum-same q v w m fits same)) (choices_of q.game s) (chosen.each s))
+      (λ i d l.
+      let m : Distribution = get_or (choices_of q.game s) i d in
+      ap (λ x. round x m.total) (weighted_sum-same q v w m (chosen.each s i d l) same))
 
   -- one step more
   pub steps_from-next : (opening table next : ℕ → ℕ) (k : ℕ) → Agree q table (steps_from (step_of round q) opening k)

@@ -3,7 +3,7 @@ use Rattle.std.proofs.Common.{◌≡◌, ℕ, ◌+◌, ◌*◌, ◌/◌, ◌<◌
 use borrow.Author.Count.{below_more}
 use Rattle.std.specs.Prelude.{IsTrue, false}
 use Rattle.std.proofs.lemmas.Bool.{true≢false, cases_lt}
-use Rattle.std.proofs.lemmas.List.Elements.{recursion_from_All, All-from_get_or}
+use Rattle.std.proofs.lemmas.List.Elements.{All-from_get_or}
 use Rattle.std.proofs.Math.Nat.{le-div_iff_mul-le}
 use Rattle.game_model.specs.declared.game.Side.TheVariants.{Max, Min}
 use Rattle.game_model.specs.Game.{Distribution, choices_of, choice_of, choice_among, no_distribution}
@@ -97,8 +97,7 @@ pub greatest-step : (q : Query) (v : ℕ → ℕ) (s x : ℕ) → IsFree q s →
 greatest-step q v s x free is each =
     let best : optimum Max (down_value v) (choices_of q.game s) ≤ x =
     optimum-most Max (down_value v) x (choices_of q.game s)
-    (recursion_from_All (λ m. down_value v m ≤ x) (choices_of q.game s)
-    (All-from_get_or (λ m. down_value v m ≤ x) (choices_of q.game s) no_distribution each)) in
+    (All-from_get_or (λ m. down_value v m ≤ x) (choices_of q.game s) no_distribution each) in
     omega (arith, best, free_step q v s free, ap (λ side. optimum side (down_value v) (choices_of q.game s)) is)
 
 pub least-step : (q : Query) (v : ℕ → ℕ) (s c x : ℕ) → IsFree q s → Min ≡ side_at q s → c < length (choices_of q.game s)

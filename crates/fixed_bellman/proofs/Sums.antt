@@ -12,7 +12,6 @@ use Rattle.game_model.specs.Values.{weighted_sum}
 use Rattle.game_model.specs.Limits.{unit, total_bound}
 use Rattle.fixed_bellman.specs.Sums.{edges_of, IsSumBetween}
 use Rattle.game_model.proofs.Best.{weighted_sum-le, weighted_sum-most}
-use Rattle.game_model.proofs.Each.{AllByRecursion-always}
 use Rattle.fixed_bellman.proofs.Edges.{length-edges_of, get_or-edges_of}
 
 -- a table of units, past its end too
@@ -26,7 +25,7 @@ slice_index-units table units t = elim (cases_lt t (length table)) [
 pub weighted_sum-whole : (edges : List Edge) (table : List ℕ) → All (λ v. v ≤ unit) table
     → weighted_sum (slice_index table) edges ≤ sum_by (λ e. e.weight) edges * unit
 weighted_sum-whole edges table units = weighted_sum-most (slice_index table) unit edges
-    (AllByRecursion-always _ (λ e. slice_index-units table units e.to) edges)
+    (λ i d l. slice_index-units table units (get_or edges i d).to)
 
 -- one more edge
 module _ (edges : List Edge) (p sum value : ℕ) (edge : Edge) (there : p < length edges)
@@ -56,7 +55,7 @@ module _ (edges : List Edge) (p sum value : ℕ) (edge : Edge) (there : p < leng
       → sum + edge.weight * value ≤ weighted_sum w (take (p + 1) edges)
   high-more v w so_far up less =
       let rise : 1 * weighted_sum v (take p edges) ≤ 1 * weighted_sum w (take p edges) =
-      weighted_sum-le v w 1 1 (take p edges) (AllByRecursion-always _ (λ e. omega (arith, up e.to)) (take p edges)) in
+      weighted_sum-le v w 1 1 (take p edges) (λ i d l. omega (arith, up (get_or (take p edges) i d).to)) in
       omega (arith, sum-more w, mul-le-mul_left edge.weight less, so_far, rise)
 
   -- the sum so far and one more product

@@ -1,12 +1,11 @@
 -- Tables of units: what a choice gives over one, and an edge that leads high.
-use Rattle.std.proofs.Common.{◌≡◌, ℕ, zero, suc, ◌+◌, ◌*◌, ◌<◌, ◌≤◌, List, [], ◌∷◌, length, fold, sum_by, arith, refl}
-use Rattle.std.proofs.Common.{sym, ap, ◌∙◌, subst, inl, inr, ◌⊎◌}
-use Rattle.std.specs.List.{AllByRecursion}
+use Rattle.std.proofs.Common.{◌≡◌, ℕ, zero, suc, ◌+◌, ◌*◌, ◌<◌, ◌≤◌, List, [], ◌∷◌, length, get_or, fold, sum_by, arith}
+use Rattle.std.proofs.Common.{refl, sym, ap, ◌∙◌, subst, inl, inr, ◌⊎◌}
 use Rattle.std.specs.Bool.{if◌then◌else◌}
 use Rattle.std.specs.Prelude.{slice_index_or, All}
 use Rattle.std.proofs.lemmas.Bool.{cases_lt}
 use Rattle.std.proofs.lemmas.List.Sums.{sum_by-cons}
-use Rattle.std.proofs.lemmas.List.Elements.{recursion_from_All, All-from_get_or}
+use Rattle.std.proofs.lemmas.List.Elements.{All-head, All-tail, All-from_get_or}
 use Rattle.std.proofs.Math.Nat.{mul-le-mul_left, le-div_iff_mul-le, div-le_of_le-mul, le-max_left}
 use Rattle.game_model.specs.declared.game.Edge.{Edge}
 use Rattle.game_model.specs.declared.game.Side.{Side}
@@ -16,7 +15,6 @@ use Rattle.game_model.specs.Query.{Query, IsQuery, states, is_dead, side_at}
 use Rattle.game_model.specs.Values.{better, optimum, weighted_sum}
 use Rattle.game_model.specs.Limits.{unit}
 use Rattle.game_model.specs.Rounded.{down_value, down_step, IsBelow}
-use Rattle.game_model.proofs.Each.{AllByRecursion-weaker}
 use Rattle.game_model.proofs.Choices.{IsChoiceOf, IsChoiceOf-choice_of}
 use Rattle.game_model.proofs.Best.{min-cases, optimum-each, weighted_sum-le, weighted_sum-most}
 use Rattle.game_laws.proofs.Steps.{down_value-le}
@@ -40,8 +38,8 @@ pub weighted_sum-rises : (game : List (List Distribution)) (v w : ℕ → ℕ) (
     → ((t : ℕ) → t < length game → v t ≤ w t) → weighted_sum v m.edges ≤ weighted_sum w m.edges
 weighted_sum-rises game v w m fits h =
     let sums : 1 * weighted_sum v m.edges ≤ 1 * weighted_sum w m.edges =
-    weighted_sum-le v w 1 1 m.edges (AllByRecursion-weaker (λ (e : Edge). e.to < length game) _
-    (λ e inside. omega (arith, h e.to inside)) m.edges fits.inside) in
+    weighted_sum-le v w 1 1 m.edges
+    (λ i d l. omega (arith, h (get_or m.edges i d).to (fits.inside i d l))) in
     omega arith
 
 -- a choice gives at most the unit
@@ -49,7 +47,7 @@ pub down_value-units : (game : List (List Distribution)) (v : ℕ → ℕ) (m : 
     → ((t : ℕ) → t < length game → v t ≤ unit) → down_value v m ≤ unit
 down_value-units game v m fits h =
     let most : weighted_sum v m.edges ≤ sum_by (λ e. e.weight) m.edges * unit = weighted_sum-most v unit m.edges
-    (AllByRecursion-weaker (λ (e : Edge). e.to < length game) _ (λ e inside. h e.to inside) m.edges fits.inside) in
+    (λ i d l. h (get_or m.edges i d).to (fits.inside i d l)) in
     div-le_of_le-mul m.total (subst (λ n. weighted_sum v m.edges ≤ n * unit) fits.sums most)
 
 -- what a choice gives is paid for by its edges
@@ -95,15 +93,17 @@ better-least Max m x y h k = omega (arith, le-max_left x y)
 better-least Min m x y h k = elim (min-cases x y) [ inl e ↦ rw e h | inr e ↦ rw e k ]
 
 fold-better-least : {X : Type 0} (side : Side) (f : X → ℕ) (m x : ℕ) (xs : List X) → m ≤ x
-    → AllByRecursion (λ y. m ≤ f y) xs → m ≤ fold (λ best y. better side best (f y)) x xs
+    → All (λ y. m ≤ f y) xs → m ≤ fold (λ best y. better side best (f y)) x xs
 fold-better-least side f m x [] h k = h
 fold-better-least side f m x (y ∷ ys) h k =
-    fold-better-least side f m (better side x (f y)) ys (better-least side m x (f y) h k.0) k.1
+    fold-better-least side f m (better side x (f y)) ys
+    (better-least side m x (f y) h (All-head (λ z. m ≤ f z) y ys k)) (All-tail (λ z. m ≤ f z) y ys k)
 
 pub optimum-least : {X : Type 0} (side : Side) (f : X → ℕ) (m : ℕ) (xs : List X) → 0 < length xs
-    → AllByRecursion (λ y. m ≤ f y) xs → m ≤ optimum side f xs
+    → All (λ y. m ≤ f y) xs → m ≤ optimum side f xs
 optimum-least side f m [] some k = absurd (omega arith)
-optimum-least side f m (x ∷ xs) some k = fold-better-least side f m (f x) xs k.0 k.1
+optimum-least side f m (x ∷ xs) some k =
+    fold-better-least side f m (f x) xs (All-head (λ y. m ≤ f y) x xs k) (All-tail (λ y. m ≤ f y) x xs k)
 
 -- the step of a free state
 pub free_step : (q : Query) (v : ℕ → ℕ) (s : ℕ) → IsFree q s
@@ -119,8 +119,7 @@ given_below q v s x c Max is h inside given =
     omega (arith, at.1, optimum-each (down_value v) (choices_of q.game s) c no_distribution at.0)
 given_below q v s x c Min is h inside given =
     optimum-least Min (down_value v) x (choices_of q.game s) (h.game.chosen s inside)
-    (recursion_from_All (λ m. x ≤ down_value v m) (choices_of q.game s)
-    (All-from_get_or (λ m. x ≤ down_value v m) (choices_of q.game s) no_distribution (given.least is).1))
+    (All-from_get_or (λ m. x ≤ down_value v m) (choices_of q.game s) no_distribution (given.least is).1)
 
 -- a given value is at most the step's
 pub IsGivenBy-below : (q : Query) (v : ℕ → ℕ) (s x c : ℕ) → IsQuery q → s < states q → IsFree q s → IsGivenBy q v s x c

@@ -1,17 +1,15 @@
 -- A table whose rounded-up step is nowhere above it is above every k-step value.
 use Rattle.std.proofs.Common.{◌≡◌, ℕ, zero, suc, ◌+◌, ◌-◌, ◌*◌, ◌/◌, ◌^◌, ◌<◌, ◌≤◌, Bool, true, false, List, length}
-use Rattle.std.proofs.Common.{arith}
-use Rattle.std.specs.List.{AllByRecursion}
+use Rattle.std.proofs.Common.{get_or, arith}
+use Rattle.std.specs.List.{All}
 use Rattle.std.specs.Bool.{if◌then◌else◌}
 use Rattle.std.proofs.Math.Nat.{mul-le-mul_left, mul-le-mul_right, pow-suc, pow-zero, lt-div-mul-add}
-use Rattle.game_model.specs.declared.game.Edge.{Edge}
 use Rattle.game_model.specs.Game.{Distribution, choices_of}
 use Rattle.game_model.specs.Query.{Query, is_goal}
 use Rattle.game_model.specs.Values.{weighted_sum, bellman, denominator, numerator_of}
 use Rattle.game_model.specs.Limits.{unit}
 use Rattle.game_model.specs.Rounded.{up_value, up_step}
 use Rattle.game_model.specs.Bounds.{IsHigh}
-use Rattle.game_model.proofs.Each.{AllByRecursion-weaker}
 use Rattle.game_model.proofs.Choices.{IsChoiceOf, AreChoicesOf}
 use Rattle.game_model.proofs.Best.{weighted_sum-le}
 use Rattle.game_model.proofs.Rises.{bellman-le}
@@ -34,8 +32,7 @@ up_value-above q choices table k m fits above =
     let D : ℕ = denominator q.game in
     let sums : unit * weighted_sum (numerator_of q choices k) m.edges ≤ D ^ k * weighted_sum table m.edges =
     weighted_sum-le (numerator_of q choices k) table unit (D ^ k) m.edges
-    (AllByRecursion-weaker (λ (e : Edge). e.to < length q.game) _
-    (λ e inside. above e.to inside) m.edges fits.inside) in
+    (λ i d l. above (get_or m.edges i d).to (fits.inside i d l)) in
     rw pow-suc (scaled-above (up_value table m) m.total (D / m.total) D (D ^ k) unit (weighted_sum table m.edges)
     (weighted_sum (numerator_of q choices k) m.edges)
     (ceil-above (weighted_sum table m.edges) m.total fits.positive) fits.divides sums)
@@ -57,10 +54,10 @@ inductive-above q choices table chosen inductive zero s inside =
     opening-above (is_goal q s) unit (denominator q.game) _ (table s) (inductive s inside)
 inductive-above q choices table chosen inductive (suc k) s inside =
     let D : ℕ = denominator q.game in
-    let each : AllByRecursion (λ m.
+    let each : All (λ m.
     unit * (D / m.total * weighted_sum (numerator_of q choices k) m.edges) ≤ D ^ suc k * up_value table m) (choices s) =
-    AllByRecursion-weaker (IsChoiceOf q.game) _ (λ m fits. up_value-above q choices table k m fits
-    (λ t within. inductive-above q choices table chosen inductive k t within)) (choices s) (chosen.each s) in
+    λ i d l. up_value-above q choices table k (get_or (choices s) i d) (chosen.each s i d l)
+    (λ t within. inductive-above q choices table chosen inductive k t within) in
     let step : unit * numerator_of q choices (suc k) s ≤ D ^ suc k * bellman q choices unit (up_value table) s =
     bellman-le q choices unit (D ^ suc k) (D ^ suc k) unit _ (up_value table) s (omega arith) each in
     omega (arith, step, mul-le-mul_left (D ^ suc k) (inductive s inside))

@@ -1,17 +1,15 @@
 -- Ranked values are reached at some horizon, less any 1/m, whatever number of units is probability 1.
 use Rattle.std.proofs.Common.{◌≡◌, ℕ, zero, suc, ◌+◌, ◌-◌, ◌*◌, ◌/◌, ◌^◌, ◌<◌, ◌≤◌, ◌⊎◌, Bool, true, false, List}
 use Rattle.std.proofs.Common.{length, arith, refl, sym, ◌∙◌, ap, subst, sum_by, inl, inr, get_or, add-suc, add-zero}
-use Rattle.std.specs.List.{AllByRecursion}
+use Rattle.std.specs.List.{All}
 use Rattle.std.specs.Bool.{if◌then◌else◌}
 use Rattle.std.proofs.lemmas.Bool.{cases_lt, cases_Bool, false_from_ne_true}
 use Rattle.std.proofs.lemmas.Nat.{pow-add}
 use Rattle.std.proofs.Math.Nat.{mul-le-mul_left, mul-le-mul_right, pow-suc, pow-zero, one-le-pow}
-use Rattle.game_model.specs.declared.game.Edge.{Edge}
 use Rattle.game_model.specs.Game.{Distribution, no_edge}
 use Rattle.game_model.specs.Query.{Query, is_goal, is_dead, side_at}
 use Rattle.game_model.specs.Values.{weighted_sum, denominator, numerator_of}
 use Rattle.game_model.specs.Ranks.{IsRankedChoice}
-use Rattle.game_model.proofs.Each.{AllByRecursion-weaker, AllByRecursion-at, AllByRecursion-both}
 use Rattle.game_model.proofs.Choices.{IsChoiceOf, AreChoicesOf}
 use Rattle.game_model.proofs.Best.{weighted_sum-affine}
 use Rattle.game_model.proofs.Rises.{numerator_of-goal, numerator_of-most}
@@ -27,7 +25,7 @@ module _ (top : ℕ) where
     pub deads : (s : ℕ) → s < length q.game → is_dead q s ≡ true → v s ≡ 0
     pub ranks : (s : ℕ) → r s ≤ most
     pub ranked : (s : ℕ) → s < length q.game → is_goal q s ≡ false → is_dead q s ≡ false → 0 < v s
-        → AllByRecursion (IsRankedChoice v r s) (choices s)
+        → All (IsRankedChoice v r s) (choices s)
 
   -- it falls along each onward step
   pub key : ℕ → (ℕ → ℕ) → (ℕ → ℕ) → ℕ → ℕ
@@ -64,8 +62,7 @@ module _ (top : ℕ) where
       → 1 ≤ denominator q.game / m.total * weighted_sum (numerator_of q choices k) m.edges
   choice-positive q choices v r most h k s inside some below m share ranked =
       let t : ℕ = (get_or m.edges ranked.place no_edge).to in
-      let within : t < length q.game =
-      AllByRecursion-at (λ (e : Edge). e.to < length q.game) m.edges ranked.place no_edge ranked.inside share.inside in
+      let within : t < length q.game = share.inside ranked.place no_edge ranked.inside in
       let falls : key most v r t < key most v r s =
       key-falls most v r s t (h.units t within) (h.ranks t) ranked.onward in
       let there : 1 ≤ numerator_of q choices k t = below t within (onward-positive v r s t some ranked.onward) falls in
@@ -87,11 +84,11 @@ module _ (top : ℕ) where
       marked-at-least (is_goal q s) (is_dead q s) (denominator q.game ^ suc k) _
       (one-le-pow (suc k) (denominator q.game) h.positive) (alive q choices v r most h s inside some) (λ no_goal.
       optimum-positive q s _ (choices s) (h.chosen.some s inside)
-      (AllByRecursion-weaker (λ m. IsChoiceOf q.game m × IsRankedChoice v r s m) _
-      (λ m fact. choice-positive q choices v r most h k s inside some (λ t within positive falls. numerator-positive q
-      choices v r most h k t within positive (omega (arith, falls, below))) m fact.0 fact.1) (choices s)
-      (AllByRecursion-both (IsChoiceOf q.game) (IsRankedChoice v r s) (choices s) (h.chosen.each s)
-      (h.ranked s inside no_goal (alive q choices v r most h s inside some) some))))
+      (λ i d l. choice-positive q choices v r most h k s inside some
+      (λ t within positive falls.
+      numerator-positive q choices v r most h k t within positive (omega (arith, falls, below)))
+      (get_or (choices s) i d) (h.chosen.each s i d l)
+      (h.ranked s inside no_goal (alive q choices v r most h s inside some) some i d l)))
 
   -- what a stretch of i more steps keeps: h steps from the start of it, and c of the opening that is left
   abbrev pub Stretch : Query → (ℕ → List Distribution) → (ℕ → ℕ) → ℕ → ℕ → ℕ → ℕ → Type 0
@@ -117,8 +114,7 @@ module _ (top : ℕ) where
       ≤ top * weighted_sum (numerator_of q choices (h + i)) m.edges + top * c * D ^ i * sum_by (λ e. e.weight) m.edges =
       weighted_sum-affine v (numerator_of q choices i) (numerator_of q choices (h + i)) (D ^ h * D ^ i) (top * c) top
       (top * c * D ^ i) m.edges
-      (AllByRecursion-weaker (λ (e : Edge). e.to < length q.game) _
-      (λ e within. omega (arith, each e.to within)) m.edges share.inside) in
+      (λ p e l. omega (arith, each (get_or m.edges p e).to (share.inside p e l))) in
       let totals : D ^ h * D ^ i * weighted_sum v m.edges + top * c * weighted_sum (numerator_of q choices i) m.edges
       ≤ top * weighted_sum (numerator_of q choices (h + i)) m.edges + top * c * D ^ i * m.total =
       subst (λ w. D ^ h * D ^ i * weighted_sum v m.edges + top * c * weighted_sum (numerator_of q choices i) m.edges
@@ -172,11 +168,9 @@ module _ (top : ℕ) where
             optimum-affine (side_at q s) (λ m. D / m.total * weighted_sum (numerator_of q choices i) m.edges)
             (λ m. D / m.total * weighted_sum (numerator_of q choices (h + i)) m.edges)
             (v s * D ^ h * D ^ suc i) (top * c) top (top * c * D ^ suc i) (choices s) (cert.chosen.some s inside)
-            (AllByRecursion-weaker (λ m. IsChoiceOf q.game m × IsRankedChoice v r s m) _
-            (λ m fact. stretch-choice q choices v r h c i s m fact.0 fact.1
-            (λ t within. stretch-more q choices v r most cert h c base i t within)) (choices s)
-            (AllByRecursion-both (IsChoiceOf q.game) (IsRankedChoice v r s) (choices s) (cert.chosen.each s)
-            (cert.ranked s inside no_goal living some)))))
+            (λ p d l. stretch-choice q choices v r h c i s (get_or (choices s) p d) (cert.chosen.each s p d l)
+            (cert.ranked s inside no_goal living some p d l)
+            (λ t within. stretch-more q choices v r most cert h c base i t within))))
       ]
 
   first-start : (v d c u n : ℕ) → v ≤ u → v * d ^ 0 * d ^ 0 + u * c ^ 0 * n ≤ u * n + u * c ^ 0 * d ^ 0

@@ -1,20 +1,18 @@
 -- Rounded steps from below stay below some k-step value, and lose at most a unit each.
 use Rattle.std.proofs.Common.{◌≡◌, ℕ, zero, suc, ◌+◌, ◌*◌, ◌/◌, ◌^◌, ◌<◌, ◌≤◌, Bool, true, false, List, length, arith}
-use Rattle.std.proofs.Common.{◌∙◌, ap, subst, inl, inr, ◌⊎◌}
-use Rattle.std.specs.List.{AllByRecursion}
+use Rattle.std.proofs.Common.{◌∙◌, ap, subst, inl, inr, ◌⊎◌, get_or}
+use Rattle.std.specs.List.{All}
 use Rattle.std.specs.Prelude.{slice_index, slice_set}
 use Rattle.std.proofs.lemmas.Bool.{cases_eq, cases_lt}
 use Rattle.std.proofs.lemmas.List.{get_or-set_same, get_or-set_other, set_past}
 use Rattle.std.specs.Bool.{if◌then◌else◌}
 use Rattle.std.proofs.Math.Nat.{mul-le-mul_left, mul-le-mul_right, pow-suc, pow-zero, div-mul-le_self, lt-div-mul-add}
-use Rattle.game_model.specs.declared.game.Edge.{Edge}
 use Rattle.game_model.specs.Game.{Distribution, choices_of}
 use Rattle.game_model.specs.Query.{Query, is_goal, is_dead, side_at}
 use Rattle.game_model.specs.Values.{optimum, weighted_sum, bellman, denominator, numerator_of, numerator}
 use Rattle.game_model.specs.Limits.{unit}
 use Rattle.game_model.specs.Rounded.{down_value, down_step, down_steps}
 use Rattle.game_model.specs.Bounds.{IsLow}
-use Rattle.game_model.proofs.Each.{AllByRecursion-weaker}
 use Rattle.game_model.proofs.Choices.{IsChoiceOf, AreChoicesOf}
 use Rattle.game_model.proofs.Best.{optimum-plus, weighted_sum-le, weighted_sum-plus}
 use Rattle.game_model.proofs.Rises.{bellman-le, numerator_of-rises}
@@ -34,8 +32,7 @@ down_value-below q choices table k m fits below =
     let D : ℕ = denominator q.game in
     let sums : D ^ k * weighted_sum table m.edges ≤ unit * weighted_sum (numerator_of q choices k) m.edges =
     weighted_sum-le table (numerator_of q choices k) (D ^ k) unit m.edges
-    (AllByRecursion-weaker (λ (e : Edge). e.to < length q.game) _
-    (λ e inside. omega (arith, below e.to inside)) m.edges fits.inside) in
+    (λ i d l. omega (arith, below (get_or m.edges i d).to (fits.inside i d l))) in
     rw pow-suc (floor-below (down_value table m) m.total (D / m.total) D (D ^ k) unit (weighted_sum table m.edges)
     (weighted_sum (numerator_of q choices k) m.edges)
     (div-mul-le_self (weighted_sum table m.edges) m.total) fits.divides (omega (arith, sums)))
@@ -47,11 +44,13 @@ pub down_step-below : (q : Query) (table : ℕ → ℕ) (k : ℕ) → AreChoices
 unfolding numerator_of
 down_step-below q table k chosen below s =
     let D : ℕ = denominator q.game in
-    let each : AllByRecursion (λ m. D ^ suc k * down_value table m
+    let each : All (λ m. D ^ suc k * down_value table m
     ≤ unit * (D / m.total * weighted_sum (numerator q k) m.edges)) (choices_of q.game s) =
-    AllByRecursion-weaker (IsChoiceOf q.game) _
-    (λ m fits. omega (arith, down_value-below q (choices_of q.game) table k m fits below))
-    (choices_of q.game s) (chosen.each s) in
+    λ i d l. omega (
+      arith,
+      down_value-below q (choices_of q.game) table k (get_or (choices_of q.game s) i d)
+          (chosen.each s i d l) below,
+    ) in
     let step : D ^ suc k * down_step q table s ≤ unit * numerator q (suc k) s =
     bellman-le q (choices_of q.game) (D ^ suc k) unit unit (D ^ suc k) (down_value table) _ s (omega arith) each in
     omega (arith, step)
@@ -114,7 +113,7 @@ down_value-near q table k m fits near =
     let D : ℕ = denominator q.game in
     let sums : unit * weighted_sum (numerator q k) m.edges ≤ D ^ k * weighted_sum (λ t. table t + k) m.edges =
     weighted_sum-le (numerator q k) (λ t. table t + k) unit (D ^ k) m.edges
-    (AllByRecursion-weaker (λ (e : Edge). e.to < length q.game) _ (λ e inside. near e.to inside) m.edges fits.inside) in
+    (λ i d l. near (get_or m.edges i d).to (fits.inside i d l)) in
     let raised : weighted_sum (λ t. table t + k) m.edges ≡ weighted_sum table m.edges + k * m.total =
     weighted_sum-plus table k m.edges ∙ ap (λ w. weighted_sum table m.edges + k * w) fits.sums in
     rw pow-suc (floor-near (down_value table m) m.total (D / m.total) D (D ^ k) unit (weighted_sum table m.edges)
@@ -129,11 +128,10 @@ unfolding down_steps numerator_of
 down_steps-near q chosen zero s = opening-near (is_goal q s) unit (denominator q.game)
 down_steps-near q chosen (suc r) s =
     let D : ℕ = denominator q.game in
-    let each : AllByRecursion (λ m. unit * (D / m.total * weighted_sum (numerator q r) m.edges)
+    let each : All (λ m. unit * (D / m.total * weighted_sum (numerator q r) m.edges)
     ≤ D ^ suc r * (down_value (down_steps q r) m + suc r)) (choices_of q.game s) =
-    AllByRecursion-weaker (IsChoiceOf q.game) _
-    (λ m fits. down_value-near q (down_steps q r) r m fits (λ t inside. down_steps-near q chosen r t))
-    (choices_of q.game s) (chosen.each s) in
+    λ i d l. down_value-near q (down_steps q r) r (get_or (choices_of q.game s) i d) (chosen.each s i d l)
+    (λ t inside. down_steps-near q chosen r t) in
     let step : unit * numerator q (suc r) s
     ≤ D ^ suc r * bellman q (choices_of q.game) (unit + suc r) (λ m. down_value (down_steps q r) m + suc r) s =
     bellman-le q (choices_of q.game) unit (D ^ suc r) (D ^ suc r) (unit + suc r) _

@@ -1,18 +1,18 @@
 -- Optima that are tied by a fixed inequality, and what makes a scaled sum positive.
 use Rattle.std.proofs.Common.{◌≡◌, ℕ, ◌+◌, ◌*◌, ◌/◌, ◌<◌, ◌≤◌, Bool, true, false, List, [], ◌∷◌, length, fold, get_or}
 use Rattle.std.proofs.Common.{arith, refl, subst, inl, inr}
-use Rattle.std.specs.List.{AllByRecursion}
+use Rattle.std.specs.List.{All}
 use Rattle.std.specs.Bool.{if◌then◌else◌}
 use Rattle.std.proofs.lemmas.Bool.{cases_lt}
+use Rattle.std.proofs.lemmas.List.Elements.{All-head, All-tail}
 use Rattle.std.proofs.lemmas.List.Sums.{get_or-le-sum_by}
 use Rattle.std.proofs.Math.Nat.{mul-le-mul_left, le-max_left, le-max_right, min-le_left, min-le_right, one-le-mul}
-use Rattle.game_model.specs.declared.game.Edge.{Edge}
 use Rattle.game_model.specs.declared.game.Side.{Side}
 use Rattle.game_model.specs.declared.game.Side.TheVariants.{Max, Min}
+use Rattle.game_model.specs.declared.game.Edge.{Edge}
 use Rattle.game_model.specs.Game.{Distribution, no_edge}
 use Rattle.game_model.specs.Query.{Query, side_at}
 use Rattle.game_model.specs.Values.{better, optimum, weighted_sum, denominator}
-use Rattle.game_model.proofs.Each.{AllByRecursion-weaker, AllByRecursion-at}
 use Rattle.game_model.proofs.Choices.{IsChoiceOf}
 use Rattle.game_model.proofs.Best.{max-cases, min-cases}
 
@@ -28,16 +28,19 @@ better-affine Min a b d e x y x' y' h k = elim (min-cases x' y') [
 ]
 
 fold-better-affine : {X : Type 0} (side : Side) (f g : X → ℕ) (a b d e x x' : ℕ) (xs : List X)
-    → a + b * x ≤ d * x' + e → AllByRecursion (λ y. a + b * f y ≤ d * g y + e) xs
+    → a + b * x ≤ d * x' + e → All (λ y. a + b * f y ≤ d * g y + e) xs
     → a + b * fold (λ best y. better side best (f y)) x xs ≤ d * fold (λ best y. better side best (g y)) x' xs + e
 fold-better-affine side f g a b d e x x' [] h k = h
-fold-better-affine side f g a b d e x x' (y ∷ ys) h k = fold-better-affine side f g a b d e (better side x (f y))
-    (better side x' (g y)) ys (better-affine side a b d e x (f y) x' (g y) h k.0) k.1
+fold-better-affine side f g a b d e x x' (y ∷ ys) h k =
+    fold-better-affine side f g a b d e (better side x (f y)) (better side x' (g y)) ys
+    (better-affine side a b d e x (f y) x' (g y) h (All-head (λ z. a + b * f z ≤ d * g z + e) y ys k))
+    (All-tail (λ z. a + b * f z ≤ d * g z + e) y ys k)
 
 pub optimum-affine : {X : Type 0} (side : Side) (f g : X → ℕ) (a b d e : ℕ) (xs : List X) → 0 < length xs
-    → AllByRecursion (λ y. a + b * f y ≤ d * g y + e) xs → a + b * optimum side f xs ≤ d * optimum side g xs + e
+    → All (λ y. a + b * f y ≤ d * g y + e) xs → a + b * optimum side f xs ≤ d * optimum side g xs + e
 optimum-affine side f g a b d e [] h k = absurd (omega arith)
-optimum-affine side f g a b d e (x ∷ xs) h k = fold-better-affine side f g a b d e (f x) (g x) xs k.0 k.1
+optimum-affine side f g a b d e (x ∷ xs) h k = fold-better-affine side f g a b d e (f x) (g x) xs
+    (All-head (λ y. a + b * f y ≤ d * g y + e) x xs k) (All-tail (λ y. a + b * f y ≤ d * g y + e) x xs k)
 
 -- the cofactor of a total is positive
 pub quotient-pos : (d w : ℕ) → d / w * w ≡ d → 0 < d → 1 ≤ d / w
@@ -66,11 +69,11 @@ weighted_sum-pos m x p l w h =
     omega arith
 
 pub optimum-positive : (q : Query) (s : ℕ) (f : Distribution → ℕ) (xs : List Distribution) → 0 < length xs
-    → AllByRecursion (λ m. 1 ≤ f m) xs → 1 ≤ optimum (side_at q s) f xs
+    → All (λ m. 1 ≤ f m) xs → 1 ≤ optimum (side_at q s) f xs
 optimum-positive q s f xs some each =
     let step : 1 + 0 * optimum (side_at q s) f xs ≤ 1 * optimum (side_at q s) f xs + 0 =
     optimum-affine (side_at q s) f f 1 0 1 0 xs some
-    (AllByRecursion-weaker (λ m. 1 ≤ f m) _ (λ m l. omega (arith, l)) xs each) in
+    (λ i d l. omega (arith, each i d l)) in
     omega (arith, step)
 
 -- a scaled sum is positive where the value of one destination is
@@ -79,5 +82,4 @@ pub scaled-pos : (game : List (List Distribution)) (m : Distribution) (x : ℕ �
     → 1 ≤ denominator game / m.total * weighted_sum x m.edges
 scaled-pos game m x p positive fits inside there =
     one-le-mul (quotient-pos (denominator game) m.total fits.divides positive)
-    (weighted_sum-pos m x p inside
-    (AllByRecursion-at (λ (e : Edge). 1 ≤ e.weight) m.edges p no_edge inside fits.weights) there)
+    (weighted_sum-pos m x p inside (fits.weights p no_edge inside) there)

@@ -1,14 +1,12 @@
 -- Rounded steps keep the order of tables, and rise.
-use Rattle.std.proofs.Common.{ℕ, zero, suc, ◌*◌, ◌/◌, ◌<◌, ◌≤◌, Bool, true, false, List, length, arith}
+use Rattle.std.proofs.Common.{ℕ, zero, suc, ◌*◌, ◌/◌, ◌<◌, ◌≤◌, Bool, true, false, List, length, get_or, arith}
 use Rattle.std.specs.Bool.{if◌then◌else◌}
 use Rattle.std.proofs.Math.Nat.{le-div_iff_mul-le}
-use Rattle.game_model.specs.declared.game.Edge.{Edge}
 use Rattle.game_model.specs.Game.{Distribution, choices_of}
 use Rattle.game_model.specs.Query.{Query, is_goal}
 use Rattle.game_model.specs.Values.{weighted_sum}
 use Rattle.game_model.specs.Limits.{unit}
 use Rattle.game_model.specs.Rounded.{down_value, down_step, down_steps, opening, IsBelow, IsSettled}
-use Rattle.game_model.proofs.Each.{AllByRecursion-weaker}
 use Rattle.game_model.proofs.Choices.{IsChoiceOf, AreChoicesOf}
 use Rattle.game_model.proofs.Best.{weighted_sum-le}
 use Rattle.game_model.proofs.Rises.{bellman-le}
@@ -23,8 +21,8 @@ pub down_value-le : (game : List (List Distribution)) (v w : ℕ → ℕ) (m : D
     → ((t : ℕ) → t < length game → v t ≤ w t) → down_value v m ≤ down_value w m
 down_value-le game v w m fits h =
     let sums : 1 * weighted_sum v m.edges ≤ 1 * weighted_sum w m.edges =
-    weighted_sum-le v w 1 1 m.edges (AllByRecursion-weaker (λ (e : Edge). e.to < length game) _
-    (λ e inside. omega (arith, h e.to inside)) m.edges fits.inside) in
+    weighted_sum-le v w 1 1 m.edges
+    (λ i d l. omega (arith, h (get_or m.edges i d).to (fits.inside i d l))) in
     div-le-div (weighted_sum v m.edges) (weighted_sum w m.edges) m.total fits.positive (omega (arith, sums))
 
 -- a greater table has a greater down step
@@ -33,8 +31,7 @@ pub down_step-le : (q : Query) (v w : ℕ → ℕ) → AreChoicesOf q.game (choi
 down_step-le q v w chosen h s =
     let step : 1 * down_step q v s ≤ 1 * down_step q w s =
     bellman-le q (choices_of q.game) 1 1 unit unit (down_value v) (down_value w) s (omega arith)
-    (AllByRecursion-weaker (IsChoiceOf q.game) _ (λ m fits. omega (arith, down_value-le q.game v w m fits h))
-    (choices_of q.game s) (chosen.each s)) in
+    (λ i d l. omega (arith, down_value-le q.game v w (get_or (choices_of q.game s) i d) (chosen.each s i d l) h)) in
     omega (arith, step)
 
 opening-le : (goal : Bool) (top x : ℕ) → (if goal then top else 0) ≤ (if goal then top else x)

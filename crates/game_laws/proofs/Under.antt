@@ -1,17 +1,16 @@
 -- A plan of the Max side reaches at most what the side reaches.
-use Rattle.std.proofs.Common.{ℕ, zero, suc, ◌*◌, ◌/◌, ◌^◌, ◌≤◌, true, false, List, length, take, drop, arith, Option}
+use Rattle.std.proofs.Common.{ℕ, zero, suc, ◌*◌, ◌/◌, ◌^◌, ◌≤◌, true, false, List, length, take, drop, get_or, arith}
+use Rattle.std.proofs.Common.{Option}
 use Rattle.std.specs.Bool.{if◌then◌else◌}
-use Rattle.std.proofs.lemmas.List.Elements.{recursion_from_All, All-from_get_or}
+use Rattle.std.proofs.lemmas.List.Elements.{All-take, All-drop}
 use Rattle.game_model.specs.declared.game.Side.{Side}
 use Rattle.game_model.specs.declared.game.Side.TheVariants.{Max, Min}
-use Rattle.game_model.specs.Game.{Distribution, no_distribution, choices_of}
+use Rattle.game_model.specs.Game.{Distribution, choices_of}
 use Rattle.game_model.specs.Query.{Query, is_goal, is_dead, side_at}
 use Rattle.game_model.specs.Values.{optimum, weighted_sum, bellman, denominator, numerator_of, numerator}
 use Rattle.game_model.specs.Plans.{numerator_under, planned, planned_place, same_side}
-use Rattle.game_model.proofs.Each.{AllByRecursion-always, AllByRecursion-one}
-use Rattle.game_model.proofs.Best.{weighted_sum-le, optimum-most}
+use Rattle.game_model.proofs.Best.{weighted_sum-le, optimum-most, optimum-each}
 use Rattle.game_model.proofs.Rises.{bellman-le, scaled-le}
-use Rattle.game_model.proofs.Best.{optimum-each}
 
 -- one choice alone has at most the greatest value
 one-most : (f : Distribution → ℕ) (xs : List Distribution) (i : ℕ)
@@ -19,8 +18,7 @@ one-most : (f : Distribution → ℕ) (xs : List Distribution) (i : ℕ)
 one-most f xs i =
     let P : Distribution → Type 0 = λ m. f m ≤ optimum Max f xs in
     optimum-most Max f (optimum Max f xs) (take 1 (drop i xs))
-    (AllByRecursion-one P xs i
-    (recursion_from_All P xs (All-from_get_or P xs no_distribution (λ k l. optimum-each f xs k no_distribution l))))
+    (All-take P 1 (drop i xs) (All-drop P i xs (optimum-each f xs)))
 
 -- with the plan of the Max side a state has at most what it has without
 planned-most : (f : Distribution → ℕ) (xs : List Distribution) (i : ℕ) (side : Side)
@@ -55,9 +53,10 @@ numerator_under-most q plan (suc k) s =
     let tables : 1 * bellman q (planned q Max plan) (D ^ suc k) f s
     ≤ 1 * bellman q (planned q Max plan) (D ^ suc k) g s =
     bellman-le q (planned q Max plan) 1 1 (D ^ suc k) (D ^ suc k) f g s (omega arith)
-    (AllByRecursion-always _ (λ m. scaled-le 1 1 (D / m.total) (weighted_sum (numerator_under q Max plan k) m.edges)
+    (λ i d l.
+    let m : Distribution = get_or (planned q Max plan s) i d in
+    scaled-le 1 1 (D / m.total) (weighted_sum (numerator_under q Max plan k) m.edges)
     (weighted_sum (numerator q k) m.edges)
     (weighted_sum-le (numerator_under q Max plan k) (numerator q k) 1 1 m.edges
-    (AllByRecursion-always _ (λ e. omega (arith, numerator_under-most q plan k e.to)) m.edges)))
-    (planned q Max plan s)) in
+    (λ p e _. omega (arith, numerator_under-most q plan k (get_or m.edges p e).to)))) in
     omega (arith, tables, bellman-planned q plan (D ^ suc k) g s)

@@ -1,35 +1,33 @@
 -- What the laws need of choices: their weights sum to their totals, which divide the denominator.
-use Rattle.std.proofs.Common.{◌≡◌, ℕ, zero, suc, ◌*◌, ◌/◌, ◌<◌, ◌≤◌, List, [], ◌∷◌, length, arith, sym, subst, sum_by}
+use Rattle.std.proofs.Common.{◌≡◌, ℕ, zero, suc, ◌*◌, ◌/◌, ◌<◌, ◌≤◌, List, [], ◌∷◌, length, arith, sum_by}
 use Rattle.std.proofs.Common.{inl, inr, true, false, Option, take, drop}
 use Rattle.std.specs.Int.{◌∣◌}
-use Rattle.std.specs.List.{AllByRecursion}
+use Rattle.std.specs.List.{All}
 use Rattle.std.specs.Prelude.{slice_index_or}
 use Rattle.std.proofs.lemmas.Bool.{cases_lt}
 use Rattle.std.proofs.lemmas.List.{get_or_past}
-use Rattle.std.proofs.lemmas.List.Elements.{recursion_from_All, All-from_get_or}
+use Rattle.std.proofs.lemmas.List.Elements.{All-nil, All-same, All-from_get_or, All-take, All-drop}
 use Rattle.std.proofs.Math.Nat.{dvd-mul_right, dvd-mul_left_of_dvd, dvd-mul_right_of_dvd, div-mul_cancel, mul-pos}
 use Rattle.std.specs.Bool.{if◌then◌else◌}
 use Rattle.std.proofs.lemmas.Bool.Decides.{nat_tests}
-use Rattle.game_model.specs.declared.game.Edge.{Edge}
 use Rattle.game_model.specs.declared.game.Side.{Side}
 use Rattle.game_model.specs.Game.{Distribution, IsGame, choices_of, choice_of, no_distribution}
 use Rattle.game_model.specs.Query.{Query, side_at}
 use Rattle.game_model.specs.Values.{total_product, denominator}
 use Rattle.game_model.specs.Plans.{same_side, planned_place, planned}
 use Rattle.game_model.proofs.Rising.{total-pos}
-use Rattle.game_model.proofs.Each.{AllByRecursion-one}
 
 -- what the laws need of a choice of a game
 pub record IsChoiceOf (game : List (List Distribution)) (choice : Distribution) : Type 0 where
   pub sums : sum_by (λ e. e.weight) choice.edges ≡ choice.total
   pub positive : 0 < choice.total
-  pub weights : AllByRecursion (λ e. 1 ≤ e.weight) choice.edges
+  pub weights : All (λ e. 1 ≤ e.weight) choice.edges
   pub divides : denominator game / choice.total * choice.total ≡ denominator game
-  pub inside : AllByRecursion (λ e. e.to < length game) choice.edges
+  pub inside : All (λ e. e.to < length game) choice.edges
 
 -- what the laws need of the choices of each state
 pub record AreChoicesOf (game : List (List Distribution)) (choices : ℕ → List Distribution) : Type 0 where
-  pub each : (s : ℕ) → AllByRecursion (IsChoiceOf game) (choices s)
+  pub each : (s : ℕ) → All (IsChoiceOf game) (choices s)
   pub some : (s : ℕ) → s < length game → 0 < length (choices s)
 
 -- a total divides the product of the totals of its state
@@ -54,17 +52,18 @@ pub IsChoiceOf-choice_of : (game : List (List Distribution)) (s c : ℕ) → IsG
 IsChoiceOf-choice_of game s c h ls lc = record {
   sums = (h.distribution s c ls lc).sums;
   positive = total-pos _ (h.distribution s c ls lc);
-  weights = recursion_from_All (λ (e : Edge). 1 ≤ e.weight) _ (h.distribution s c ls lc).weights;
+  weights = (h.distribution s c ls lc).weights;
   divides = div-mul_cancel (choice_of game s c).total (total-divides game s c ls lc);
-  inside = recursion_from_All (λ (e : Edge). e.to < length game) _ (h.inside s c ls lc);
+  inside = h.inside s c ls lc;
 }
 
 pub AreChoicesOf-choices_of : (game : List (List Distribution)) → IsGame game → AreChoicesOf game (choices_of game)
 AreChoicesOf-choices_of game h = record {
   each = λ s. elim (cases_lt s (length game)) [
-    | inl inside ↦ recursion_from_All (IsChoiceOf game) (choices_of game s) (All-from_get_or (IsChoiceOf game)
-        (choices_of game s) no_distribution (λ c l. IsChoiceOf-choice_of game s c h inside l))
-    | inr past ↦ subst (AllByRecursion (IsChoiceOf game)) (sym (get_or_past game s [] past)) tt
+    | inl inside ↦ All-from_get_or (IsChoiceOf game) (choices_of game s) no_distribution
+        (λ c l. IsChoiceOf-choice_of game s c h inside l)
+    | inr past ↦ All-same (IsChoiceOf game) (choices_of game s) [] (get_or_past game s [] past)
+        (All-nil (IsChoiceOf game))
   ];
   some = h.chosen;
 }
@@ -99,10 +98,13 @@ pub AreChoicesOf-planned : (q : Query) (side : Side) (plan : List (Option ℕ)) 
 AreChoicesOf-planned q side plan h =
     let all : AreChoicesOf q.game (choices_of q.game) = AreChoicesOf-choices_of q.game h in
     record {
-      each = λ s. elim (same_side (side_at q s) side) as (λ mine. AllByRecursion (IsChoiceOf q.game)
+      each = λ s. elim (same_side (side_at q s) side) as (λ mine. All (IsChoiceOf q.game)
           (if mine then take 1 (drop (planned_place plan s (length (choices_of q.game s))) (choices_of q.game s))
           else choices_of q.game s)) [
-            | true ↦ AllByRecursion-one (IsChoiceOf q.game) (choices_of q.game s) _ (all.each s)
+            | true ↦
+                let place : ℕ = planned_place plan s (length (choices_of q.game s)) in
+                All-take (IsChoiceOf q.game) 1 (drop place (choices_of q.game s))
+                (All-drop (IsChoiceOf q.game) place (choices_of q.game s) (all.each s))
             | false ↦ all.each s
           ];
       some = λ s inside. elim (same_side (side_at q s) side) as (λ mine. 0 < length {A = Distribution}

@@ -1,5 +1,5 @@
 -- A k-step value is at most the value of not being lost after any number of steps.
-use Rattle.std.proofs.Common.{◌≡◌, ℕ, zero, suc, ◌*◌, ◌/◌, ◌^◌, ◌≤◌, Bool, true, false, List, arith, refl}
+use Rattle.std.proofs.Common.{◌≡◌, ℕ, zero, suc, ◌*◌, ◌/◌, ◌^◌, ◌≤◌, Bool, true, false, List, get_or, arith, refl}
 use Rattle.std.specs.Prelude.{slice_index_or}
 use Rattle.std.specs.Bool.{if◌then◌else◌}
 use Rattle.std.proofs.Math.Nat.{mul-le-mul_right, pow-suc, pow-zero}
@@ -7,7 +7,6 @@ use Rattle.game_model.specs.Game.{Distribution, choices_of}
 use Rattle.game_model.specs.Query.{Query, is_goal, is_dead, side_at}
 use Rattle.game_model.specs.Values.{weighted_sum, denominator, numerator_of, numerator}
 use Rattle.game_model.specs.Dual.{open_numerator}
-use Rattle.game_model.proofs.Each.{AllByRecursion-always}
 use Rattle.game_model.proofs.Choices.{AreChoicesOf}
 use Rattle.game_model.proofs.Best.{optimum-le, weighted_sum-le}
 use Rattle.game_model.proofs.Rises.{scaled-le, numerator_of-most}
@@ -58,11 +57,11 @@ numerator-open q lost chosen none (suc k) (suc j) s =
     (rw (pow-suc D j, pow-suc D k) (omega (
       arith,
       mul-le-mul_right D (weighted_sum-le (numerator q k) (open_numerator q lost j) (D ^ j) (D ^ k) m.edges
-          (AllByRecursion-always _ (λ e. numerator-open q lost chosen none k j e.to) m.edges)),
+          (λ i d l. numerator-open q lost chosen none k j (get_or m.edges i d).to)),
     ))) in
     marked-open (is_goal q s) (is_dead q s) (slice_index_or lost s false) (D ^ suc j) (D ^ suc k) (D ^ suc k)
     (D ^ suc j) _ _ (omega arith)
     (optimum-le (side_at q s) (λ m. D / m.total * weighted_sum (numerator q k) m.edges)
     (λ m. D / m.total * weighted_sum (open_numerator q lost j) m.edges) (D ^ suc j) (D ^ suc k) (choices_of q.game s)
-    (AllByRecursion-always _ below (choices_of q.game s)))
+    (λ i d l. below (get_or (choices_of q.game s) i d)))
     (λ h. none s h (suc k))

@@ -1,19 +1,18 @@
 -- k-step values rise with k and are at most 1.
-use Rattle.std.proofs.Common.{◌≡◌, ℕ, zero, suc, ◌*◌, ◌/◌, ◌^◌, ◌≤◌, Bool, true, false, List, arith, refl, sym, ◌∙◌, ap}
-use Rattle.std.proofs.Common.{subst}
-use Rattle.std.specs.List.{AllByRecursion}
+use Rattle.std.proofs.Common.{◌≡◌, ℕ, zero, suc, ◌*◌, ◌/◌, ◌^◌, ◌≤◌, Bool, true, false, List, get_or, arith, refl, sym}
+use Rattle.std.proofs.Common.{◌∙◌, ap, subst}
+use Rattle.std.specs.List.{All}
 use Rattle.std.specs.Bool.{if◌then◌else◌}
 use Rattle.std.proofs.Math.Nat.{mul-le-mul_left, mul-le-mul_right, pow-suc, one-mul, pow-zero, div-mul-le_self}
 use Rattle.game_model.specs.Game.{Distribution}
 use Rattle.game_model.specs.Query.{Query, is_goal, is_dead, side_at}
 use Rattle.game_model.specs.Values.{optimum, weighted_sum, bellman, denominator, numerator_of}
-use Rattle.game_model.proofs.Each.{AllByRecursion-always, AllByRecursion-weaker}
 use Rattle.game_model.proofs.Choices.{IsChoiceOf, AreChoicesOf}
 use Rattle.game_model.proofs.Best.{optimum-le, optimum-most, weighted_sum-le, weighted_sum-most}
 
 -- one step from values whose multiples are in order
 pub bellman-le : (q : Query) (choices : ℕ → List Distribution) (a b top top' : ℕ) (f g : Distribution → ℕ) (s : ℕ)
-    → a * top ≤ b * top' → AllByRecursion (λ m. a * f m ≤ b * g m) (choices s)
+    → a * top ≤ b * top' → All (λ m. a * f m ≤ b * g m) (choices s)
     → a * bellman q choices top f s ≤ b * bellman q choices top' g s
 bellman-le q choices a b top top' f g s at_goal each =
     elim (is_goal q s)
@@ -47,14 +46,16 @@ numerator_of-rises q choices zero s = opens (is_goal q s) (denominator q.game) _
 numerator_of-rises q choices (suc k) s =
     bellman-le q choices (denominator q.game) 1 (denominator q.game ^ suc k) (denominator q.game ^ suc (suc k)) _ _ s
     (omega (arith, pow-suc (denominator q.game) (suc k)))
-    (AllByRecursion-always _ (λ m. scaled-le (denominator q.game) 1 (denominator q.game / m.total)
-    (weighted_sum (numerator_of q choices k) m.edges) (weighted_sum (numerator_of q choices (suc k)) m.edges)
+    (λ i d l.
+    let m : Distribution = get_or (choices s) i d in
+    scaled-le (denominator q.game) 1 (denominator q.game / m.total) (weighted_sum (numerator_of q choices k) m.edges)
+    (weighted_sum (numerator_of q choices (suc k)) m.edges)
     (weighted_sum-le (numerator_of q choices k) (numerator_of q choices (suc k)) (denominator q.game) 1 m.edges
-    (AllByRecursion-always _ (λ e. numerator_of-rises q choices k e.to) m.edges))) (choices s))
+    (λ p e _. numerator_of-rises q choices k (get_or m.edges p e).to)))
 
 -- one step from values that are at most a number
 pub bellman-most : (q : Query) (choices : ℕ → List Distribution) (top m : ℕ) (f : Distribution → ℕ) (s : ℕ) → top ≤ m
-    → AllByRecursion (λ distribution. f distribution ≤ m) (choices s) → bellman q choices top f s ≤ m
+    → All (λ distribution. f distribution ≤ m) (choices s) → bellman q choices top f s ≤ m
 bellman-most q choices top m f s at_goal each =
     elim (is_goal q s)
     as (λ goal. (if goal then top else (if is_dead q s then 0 else optimum (side_at q s) f (choices s))) ≤ m) [
@@ -80,11 +81,14 @@ unfolding numerator_of
 numerator_of-most q choices chosen zero s = opens-most (is_goal q s) (denominator q.game)
 numerator_of-most q choices chosen (suc k) s =
     bellman-most q choices (denominator q.game ^ suc k) (denominator q.game ^ suc k) _ s (omega arith)
-    (AllByRecursion-weaker (IsChoiceOf q.game) _ (λ m fits. rw pow-suc
+    (λ i d l.
+    let m : Distribution = get_or (choices s) i d in
+    let fits : IsChoiceOf q.game m = chosen.each s i d l in
+    rw pow-suc
     (scaled-most (denominator q.game) m.total (weighted_sum (numerator_of q choices k) m.edges) (denominator q.game ^ k)
     (subst (λ w. weighted_sum (numerator_of q choices k) m.edges ≤ w * denominator q.game ^ k) fits.sums
     (weighted_sum-most (numerator_of q choices k) (denominator q.game ^ k) m.edges
-    (AllByRecursion-always _ (λ e. numerator_of-most q choices chosen k e.to) m.edges))))) (choices s) (chosen.each s))
+    (λ p e _. numerator_of-most q choices chosen k (get_or m.edges p e).to)))))
 
 marked-goal : (goal : Bool) (top x : ℕ) → goal ≡ true → (if goal then top else x) ≡ top
 marked-goal goal top x h = rw h refl

@@ -1,19 +1,18 @@
 -- The swapped question: not being lost for k steps is not losing in k steps.
 use Rattle.std.proofs.Common.{◌≡◌, ℕ, zero, suc, ◌+◌, ◌*◌, ◌/◌, ◌^◌, ◌<◌, Bool, true, false, List, [], ◌∷◌, length}
-use Rattle.std.proofs.Common.{fold, max, min, arith, refl, sym, ap, subst}
-use Rattle.std.specs.List.{AllByRecursion}
+use Rattle.std.proofs.Common.{fold, get_or, max, min, arith, refl, sym, ap, subst}
+use Rattle.std.specs.List.{All}
 use Rattle.std.specs.Prelude.{slice_index_or}
 use Rattle.std.specs.Bool.{if◌then◌else◌}
 use Rattle.std.proofs.lemmas.List.{get_or-map}
+use Rattle.std.proofs.lemmas.List.Elements.{All-head, All-tail}
 use Rattle.std.proofs.Math.Nat.{pow-suc, pow-zero}
-use Rattle.game_model.specs.declared.game.Edge.{Edge}
 use Rattle.game_model.specs.declared.game.Side.{Side}
 use Rattle.game_model.specs.declared.game.Side.TheVariants.{Max, Min}
 use Rattle.game_model.specs.Game.{Distribution, choices_of}
 use Rattle.game_model.specs.Query.{Query, is_goal, side_at}
 use Rattle.game_model.specs.Values.{better, optimum, weighted_sum, denominator, numerator_of, numerator}
 use Rattle.game_model.specs.Dual.{open_numerator, other_side, swapped}
-use Rattle.game_model.proofs.Each.{AllByRecursion-weaker}
 use Rattle.game_model.proofs.Choices.{IsChoiceOf, AreChoicesOf}
 use Rattle.game_model.proofs.Best.{weighted_sum-both}
 
@@ -24,17 +23,20 @@ better-both Max m x y x' y' h k = let at : max x y + min x' y' ≡ m = omega ari
 better-both Min m x y x' y' h k = let at : min x y + max x' y' ≡ m = omega arith in at
 
 fold-better-both : {X : Type 0} (side : Side) (f g : X → ℕ) (m x x' : ℕ) (xs : List X)
-    → x + x' ≡ m → AllByRecursion (λ y. f y + g y ≡ m) xs
+    → x + x' ≡ m → All (λ y. f y + g y ≡ m) xs
     → fold (λ best y. better side best (f y)) x xs + fold (λ best y. better (other_side side) best (g y)) x' xs ≡ m
 fold-better-both side f g m x x' [] h k = h
-fold-better-both side f g m x x' (y ∷ ys) h k = fold-better-both side f g m (better side x (f y))
-    (better (other_side side) x' (g y)) ys (better-both side m x (f y) x' (g y) h k.0) k.1
+fold-better-both side f g m x x' (y ∷ ys) h k =
+    fold-better-both side f g m (better side x (f y)) (better (other_side side) x' (g y)) ys
+    (better-both side m x (f y) x' (g y) h (All-head (λ z. f z + g z ≡ m) y ys k))
+    (All-tail (λ z. f z + g z ≡ m) y ys k)
 
 -- the optimum of one side and of the other
 optimum-both : {X : Type 0} (side : Side) (f g : X → ℕ) (m : ℕ) (xs : List X) → 0 < length xs
-    → AllByRecursion (λ y. f y + g y ≡ m) xs → optimum side f xs + optimum (other_side side) g xs ≡ m
+    → All (λ y. f y + g y ≡ m) xs → optimum side f xs + optimum (other_side side) g xs ≡ m
 optimum-both side f g m [] h k = absurd (omega arith)
-optimum-both side f g m (x ∷ xs) h k = fold-better-both side f g m (f x) (g x) xs k.0 k.1
+optimum-both side f g m (x ∷ xs) h k = fold-better-both side f g m (f x) (g x) xs
+    (All-head (λ y. f y + g y ≡ m) x xs k) (All-tail (λ y. f y + g y ≡ m) x xs k)
 
 -- goals of one are dead in the other
 marked-both : (goal lost : Bool) (top a b : ℕ) → (lost ≡ true → goal ≡ false) → a + b ≡ top
@@ -68,15 +70,17 @@ open_numerator-swapped q lost chosen sides apart (suc k) s inside =
     let D : ℕ = denominator q.game in
     let f : Distribution → ℕ = λ m. D / m.total * weighted_sum (open_numerator q lost k) m.edges in
     let g : Distribution → ℕ = λ m. D / m.total * weighted_sum (numerator (swapped q lost) k) m.edges in
-    let each : AllByRecursion (λ m. f m + g m ≡ D ^ suc k) (choices_of q.game s) =
-    AllByRecursion-weaker (IsChoiceOf q.game) _ (λ m fits. rw pow-suc (scaled-both D m.total (D ^ k)
+    let each : All (λ m. f m + g m ≡ D ^ suc k) (choices_of q.game s) =
+    λ i d l.
+    let m : Distribution = get_or (choices_of q.game s) i d in
+    let fits : IsChoiceOf q.game m = chosen.each s i d l in
+    rw pow-suc (scaled-both D m.total (D ^ k)
     (weighted_sum (open_numerator q lost k) m.edges) (weighted_sum (numerator (swapped q lost) k) m.edges) fits.divides
     (subst (λ w. weighted_sum (open_numerator q lost k) m.edges + weighted_sum (numerator (swapped q lost) k) m.edges
     ≡ w * D ^ k) fits.sums
     (weighted_sum-both (open_numerator q lost k) (numerator (swapped q lost) k) (D ^ k) m.edges
-    (AllByRecursion-weaker (λ (e : Edge). e.to < length q.game) _
-    (λ e within. open_numerator-swapped q lost chosen sides apart k e.to within) m.edges fits.inside)))))
-    (choices_of q.game s) (chosen.each s) in
+    (λ p e here. open_numerator-swapped q lost chosen sides apart k (get_or m.edges p e).to (fits.inside p e here)))))
+    in
     let best : optimum (side_at q s) f (choices_of q.game s)
     + optimum (side_at (swapped q lost) s) g (choices_of q.game s) ≡ D ^ suc k =
     subst (λ side. optimum (side_at q s) f (choices_of q.game s) + optimum side g (choices_of q.game s) ≡ D ^ suc k)

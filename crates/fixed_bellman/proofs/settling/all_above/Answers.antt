@@ -1,7 +1,7 @@
 use Rattle.std.proofs.Common.{ℕ, ◌+◌, ◌<◌, ◌≤◌, List, length, refl, sym, arith}
 use Rattle.std.specs.Prelude.{slice_index}
 use Rattle.std.proofs.lemmas.Bool.{true≢false}
-use Rattle.std.proofs.lemmas.List.Elements.{recursion_from_All, All-from_get_or}
+use Rattle.std.proofs.lemmas.List.Elements.{All-from_get_or}
 use Rattle.game_model.specs.declared.game.Side.TheVariants.{Min}
 use Rattle.game_model.specs.Game.{Distribution, no_distribution}
 use Rattle.game_model.specs.Values.{optimum}
@@ -30,7 +30,6 @@ returns c =
     let next : ℕ = c.args.floor + 1 in
     let row : List Distribution = c.args.row.now in
     let least : next ≤ optimum Min f row = optimum-least Min f next row c.invariant.ensures.some
-    (recursion_from_All (λ m. next ≤ f m) row
     (All-from_get_or (λ m. next ≤ f m) row no_distribution (λ d l. let above = c.loop-choice.invariant d
-    (omega (arith, c.choices-choice-end.ensures, c.loop-choice-test.false)) in omega (arith, above)))) in
+    (omega (arith, c.choices-choice-end.ensures, c.loop-choice-test.false)) in omega (arith, above))) in
     (λ _. omega (arith, least), λ _. refl)

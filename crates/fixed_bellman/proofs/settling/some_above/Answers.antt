@@ -1,7 +1,7 @@
 use Rattle.std.proofs.Common.{ℕ, ◌<◌, ◌≤◌, List, length, refl, sym, arith}
 use Rattle.std.specs.Prelude.{slice_index}
 use Rattle.std.proofs.lemmas.Bool.{true≢false}
-use Rattle.std.proofs.lemmas.List.Elements.{recursion_from_All, All-from_get_or}
+use Rattle.std.proofs.lemmas.List.Elements.{All-from_get_or}
 use Rattle.game_model.specs.declared.game.Side.TheVariants.{Max}
 use Rattle.game_model.specs.Game.{Distribution, choice_among, no_distribution}
 use Rattle.game_model.specs.Values.{optimum}
@@ -24,6 +24,6 @@ returns c =
     let floor : ℕ = c.args.floor in
     let row : List Distribution = c.args.row.now in
     let most : optimum Max f row ≤ floor = optimum-most Max f floor row
-    (recursion_from_All (λ m. f m ≤ floor) row (All-from_get_or (λ m. f m ≤ floor) row no_distribution
-    (λ d l. c.loop-choice.invariant d (omega (arith, c.choices-choice-end.ensures, c.loop-choice-test.false))))) in
+    (All-from_get_or (λ m. f m ≤ floor) row no_distribution
+    (λ d l. c.loop-choice.invariant d (omega (arith, c.choices-choice-end.ensures, c.loop-choice-test.false)))) in
     (λ wrong. absurd (true≢false (sym wrong)), λ above. absurd (omega (arith, most, above)))
