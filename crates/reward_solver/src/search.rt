@@ -8,8 +8,8 @@ ghost use Rattle.reward_units.specs.Units.{most_places};
 ghost use Rattle.reward_units.specs.Rounded.{exact_in, paid_units, ArePaidUnits};
 ghost use Rattle.reward_units.specs.declared.rounded.Rounding.TheVariants.{Down, Up};
 
-use crate::places::Places;
 use crate::costs::{complement, costs_of, infinite_states};
+use crate::places::Places;
 use game_model::{Marks, Question};
 use game_outside::OutOfMemory;
 use plan_solver::{CostlyTables, Costs, find_costly_bounds};
@@ -124,7 +124,13 @@ impl Asked<'_, '_> {
             lower: &most,
             upper: &least,
         };
-        let found = find_costly_bounds(alloc, self.turned, self.predecessors, self.infinite, costs)?;
+        let found = find_costly_bounds(
+            alloc,
+            self.turned,
+            self.predecessors,
+            self.infinite,
+            costs,
+        )?;
         let mut lower = found.upper;
         let mut upper = found.lower;
         complement(&mut lower);

@@ -35,7 +35,9 @@ impl Excess {
     fn less(self, total: u128, cost: u64) -> Excess {
         Excess {
             above: self.above,
-            below: self.below.wrapping_add(total.wrapping_mul(u128::from(cost))),
+            below: self
+                .below
+                .wrapping_add(total.wrapping_mul(u128::from(cost))),
             moving: self.moving,
         }
     }
@@ -104,14 +106,7 @@ const SMALL: u128 = 16_384;
 
 /// Returns what a choice of a state gives, less its cost, compared with this entry. Edges to the state itself are left
 /// out.
-fn excess_of(
-    row: &Row<'_>,
-    entries: &[u64],
-    state: u32,
-    choice: u32,
-    own: u64,
-    cost: u64,
-) -> Excess
+fn excess_of(row: &Row<'_>, entries: &[u64], state: u32, choice: u32, own: u64, cost: u64) -> Excess
     requires { choice < length row.now }
 {
     let excess = excess_of_edges(row, entries, state, choice, own);
