@@ -5,7 +5,6 @@ use Rattle.std.specs.Prelude.{slice_index, slice_index_or, Option}
 use Rattle.std.specs.Bool.{if◌then◌else◌}
 use Rattle.std.proofs.lemmas.Bool.{cases_lt}
 use Rattle.std.proofs.lemmas.List.{get_or-map}
-use Rattle.game_model.specs.declared.game.Edge.{Edge}
 use Rattle.game_model.specs.declared.game.Side.{Side}
 use Rattle.game_model.specs.declared.game.Side.TheVariants.{Max, Min}
 use Rattle.game_model.specs.Game.{Distribution, choices_of, choice_of}
@@ -15,7 +14,6 @@ use Rattle.game_model.specs.Limits.{unit}
 use Rattle.game_model.specs.Rounded.{up_value, up_step, IsInductive}
 use Rattle.game_model.specs.Ranks.{Ranked, HasRankedChoice}
 use Rattle.game_model.specs.Dual.{IsZeroSet, other_side, swapped}
-use Rattle.game_model.proofs.Each.{AllByRecursion-weaker}
 use Rattle.game_model.proofs.Choices.{IsChoiceOf, IsChoiceOf-choice_of}
 use Rattle.game_model.proofs.Best.{weighted_sum-both}
 use Rattle.inductive_check.proofs.Zero.{up_step-zero}
@@ -41,8 +39,7 @@ module _ (q : Query) (zero : List Bool) (values : List ℕ) (picks : List (Optio
       let fits : IsChoiceOf q.game m = IsChoiceOf-choice_of q.game s c h.game inside in_range in
       let both : weighted_sum table m.edges + weighted_sum (slice_index values) m.edges ≡ m.total * unit =
       subst (λ w. weighted_sum table m.edges + weighted_sum (slice_index values) m.edges ≡ w * unit) fits.sums
-      (weighted_sum-both table (slice_index values) unit m.edges (AllByRecursion-weaker
-      (λ (e : Edge). e.to < length q.game) _ (λ e within. whole e.to within) m.edges fits.inside)) in
+      (weighted_sum-both table (slice_index values) unit m.edges (λ i d l. whole _ (fits.inside i d l))) in
       let all : (table s + slice_index values s) * m.total ≡ unit * m.total = ap (λ n. n * m.total) (whole s inside) in
       omega (arith, both, all, enough)
 

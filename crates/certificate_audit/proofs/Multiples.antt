@@ -1,8 +1,7 @@
 -- Tables of which one is a multiple of the other: what is said of the one in its units is said of the other in its own.
 use Rattle.std.proofs.Common.{◌≡◌, ◌∙◌, ℕ, zero, suc, ◌+◌, ◌*◌, ◌<◌, ◌≤◌, Bool, true, false, cond, List, [], ◌∷◌, map}
-use Rattle.std.proofs.Common.{fold, inl, inr, refl, ap, sym, arith}
+use Rattle.std.proofs.Common.{fold, get_or, inl, inr, refl, ap, sym, arith}
 use Rattle.std.specs.Prelude.{Option, Some, None, All, slice_index, slice_index_or}
-use Rattle.std.specs.List.{AllByRecursion}
 use Rattle.std.proofs.lemmas.Bool.{cases_lt}
 use Rattle.std.proofs.lemmas.List.Elements.{All-nil, All-cons, All-head, All-tail}
 use Rattle.std.proofs.Math.Nat.{mul-le-mul_left, max-le, le-max_left, le-max_right, min-le_left, min-le_right}
@@ -15,7 +14,6 @@ use Rattle.game_model.specs.Values.{better, optimum, weighted_sum, bellman}
 use Rattle.game_model.specs.Rounded.{up_value, IsInductiveIn}
 use Rattle.game_model.specs.Ranks.{IsRankedChoice, HasRankedChoice, RankedIn}
 use Rattle.game_model.proofs.Best.{weighted_sum-le, min-cases}
-use Rattle.game_model.proofs.Each.{AllByRecursion-always, AllByRecursion-weaker}
 use Rattle.game_model.proofs.Choices.{IsChoiceOf, AreChoicesOf-choices_of}
 use Rattle.inductive_check.specs.Held.{IsHeld}
 use Rattle.inductive_check.specs.Replies.{IsReply, AreReplies}
@@ -57,20 +55,23 @@ better-bound Min a b x y x' y' h k most = elim (min-cases x y) [
 ]
 
 fold-bound : (side : Side) (f g : Distribution → ℕ) (a b x x' : ℕ) (ms : List Distribution) → (x ≤ a → x' ≤ b)
-    → AllByRecursion (λ m. f m ≤ a → g m ≤ b) ms → fold (λ best m. better side best (f m)) x ms ≤ a
+    → All (λ m. f m ≤ a → g m ≤ b) ms → fold (λ best m. better side best (f m)) x ms ≤ a
     → fold (λ best m. better side best (g m)) x' ms ≤ b
 fold-bound side f g a b x x' [] h k most = h most
 fold-bound side f g a b x x' (m ∷ ms) h k most =
     fold-bound side f g a b (better side x (f m)) (better side x' (g m)) ms
-    (better-bound side a b x (f m) x' (g m) h k.0) k.1 most
+    (better-bound side a b x (f m) x' (g m) h (All-head (λ (m : Distribution). f m ≤ a → g m ≤ b) m ms k))
+    (All-tail (λ (m : Distribution). f m ≤ a → g m ≤ b) m ms k) most
 
 optimum-bound : (side : Side) (f g : Distribution → ℕ) (a b : ℕ) (ms : List Distribution)
-    → AllByRecursion (λ m. f m ≤ a → g m ≤ b) ms → optimum side f ms ≤ a → optimum side g ms ≤ b
+    → All (λ m. f m ≤ a → g m ≤ b) ms → optimum side f ms ≤ a → optimum side g ms ≤ b
 optimum-bound side f g a b [] k most = omega arith
-optimum-bound side f g a b (m ∷ ms) k most = fold-bound side f g a b (f m) (g m) ms k.0 k.1 most
+optimum-bound side f g a b (m ∷ ms) k most =
+    fold-bound side f g a b (f m) (g m) ms (All-head (λ (m : Distribution). f m ≤ a → g m ≤ b) m ms k)
+    (All-tail (λ (m : Distribution). f m ≤ a → g m ≤ b) m ms k) most
 
 bellman-bound : (q : Query) (choices : ℕ → List Distribution) (s top top' a b : ℕ) (f g : Distribution → ℕ)
-    → (top ≤ a → top' ≤ b) → AllByRecursion (λ m. f m ≤ a → g m ≤ b) (choices s) → bellman q choices top f s ≤ a
+    → (top ≤ a → top' ≤ b) → All (λ m. f m ≤ a → g m ≤ b) (choices s) → bellman q choices top f s ≤ a
     → bellman q choices top' g s ≤ b
 bellman-bound q choices s top top' a b f g h k = by (is_goal q s) (is_dead q s)
   where
@@ -86,11 +87,9 @@ module _ (f : ℕ) (some : 1 ≤ f) (v w : ℕ → ℕ) (times : (t : ℕ) → w
   sums : (edges : List Edge) → weighted_sum w edges ≡ f * weighted_sum v edges
   sums edges =
       let most : 1 * weighted_sum w edges ≤ f * weighted_sum v edges =
-      weighted_sum-le w v 1 f edges
-      (AllByRecursion-always (λ (e : Edge). 1 * w e.to ≤ f * v e.to) (λ e. omega (arith, times e.to)) edges) in
+      weighted_sum-le w v 1 f edges (λ i d l. omega (arith, times (get_or edges i d).to)) in
       let least : f * weighted_sum v edges ≤ 1 * weighted_sum w edges =
-      weighted_sum-le v w f 1 edges
-      (AllByRecursion-always (λ (e : Edge). f * v e.to ≤ 1 * w e.to) (λ e. omega (arith, times e.to)) edges) in
+      weighted_sum-le v w f 1 edges (λ i d l. omega (arith, times (get_or edges i d).to)) in
       omega (arith, most, least)
 
   held-times : (u x : ℕ) (m : Distribution) → x ≡ f * u → IsHeld v u m → IsHeld w x m
@@ -117,18 +116,14 @@ module _ (f : ℕ) (some : 1 ≤ f) (v w : ℕ → ℕ) (times : (t : ℕ) → w
   inductive-times q top posed inductive s inside =
       bellman-bound q (choices_of q.game) s top (f * top) (v s) (w s) (up_value v) (up_value w)
       (λ most. omega (arith, times s, mul-le-mul_left f most))
-      (AllByRecursion-weaker (IsChoiceOf q.game) (λ m. up_value v m ≤ v s → up_value w m ≤ w s)
-      (λ m fits. up-times q.game (v s) (w s) m (times s) fits) (choices_of q.game s)
-      ((AreChoicesOf-choices_of q.game posed.game).each s))
+      (λ i d l. up-times q.game (v s) (w s) _ (times s) ((AreChoicesOf-choices_of q.game posed.game).each s i d l))
       (inductive s inside)
 
   pub times-inductive : (q : Query) (top : ℕ) → IsQuery q → IsInductiveIn (f * top) q w → IsInductiveIn top q v
   times-inductive q top posed inductive s inside =
       bellman-bound q (choices_of q.game) s (f * top) top (w s) (v s) (up_value w) (up_value v)
       (λ most. times-le f top (v s) some (omega (arith, times s, most)))
-      (AllByRecursion-weaker (IsChoiceOf q.game) (λ m. up_value w m ≤ w s → up_value v m ≤ v s)
-      (λ m fits. times-up q.game (v s) (w s) m (times s) fits) (choices_of q.game s)
-      ((AreChoicesOf-choices_of q.game posed.game).each s))
+      (λ i d l. times-up q.game (v s) (w s) _ (times s) ((AreChoicesOf-choices_of q.game posed.game).each s i d l))
       (inductive s inside)
 
   reply-times : (q : Query) (s : ℕ) (reply : Option ℕ) → IsReply q v s reply → IsReply q w s reply

@@ -2,7 +2,8 @@
 use Rattle.std.proofs.Common.{◌≡◌, ◌∙◌, inl, inr, ℕ, List, [], ◌∷◌, ◌++◌, cond, Option, Some, None, Ok, Err, refl, ap}
 use Rattle.std.proofs.Common.{sym}
 use Rattle.std.specs.Prelude.{codes, bytes_eq}
-use Rattle.std.specs.List.{AllByRecursion}
+use Rattle.std.specs.List.{All}
+use Rattle.std.proofs.lemmas.List.Elements.{All-nil, All-cons}
 use Rattle.formula_tokens.specs.declared.fault.FormulaCause.TheVariants.{Unexpected}
 use Rattle.formula_tokens.specs.Fault.{fault_at}
 use Rattle.formula_tokens.specs.Tokens.{Tokens, Finish, Broken, Then}
@@ -26,12 +27,12 @@ record Listed (ts : List (List ℕ)) (names : List (List ℕ)) : Type 0 where
   pub others : List (List ℕ)
   pub some : names ≡ name ∷ others
   pub spelled : ts ≡ with_commas names ++ codes ">>" ∷ []
-  pub words : AllByRecursion IsWord names
+  pub words : All IsWord names
 
 -- further names up to `>>`
 record Continued (ts : List (List ℕ)) (names : List (List ℕ)) : Type 0 where
   pub spelled : ts ≡ more_commas names ++ codes ">>" ∷ []
-  pub words : AllByRecursion IsWord names
+  pub words : All IsWord names
 
 first_name : (place : ℕ) (word : List ℕ) (after : Tokens) (ns : List (List ℕ)) (rest : Tokens)
     → ((ms : List (List ℕ)) (r : Tokens) → further_names after ≡ Ok (ms, r) → Found Continued after ms r)
@@ -53,7 +54,7 @@ first_name place word after ns rest more e =
               some = refl;
               spelled = ap (λ ts. word ∷ ts) inner.spells.spelled
                   ∙ ap (λ ts. ts ++ codes ">>" ∷ []) (sym (with_commas_from word b.value.0));
-              words = (t.0, inner.spells.words);
+              words = All-cons IsWord word b.value.0 t.0 inner.spells.words;
             };
           })
           b.then_
@@ -73,7 +74,7 @@ next_name place sign after ns rest more e =
           (record {
             tokens = codes ">>" ∷ [];
             spans = (place, after, ap (λ s. Then place s after) (same_bytes _ _ t.0), refl);
-            spells = record { spelled = refl; words = tt };
+            spells = record { spelled = refl; words = All-nil IsWord };
           })
           t.1
       | inr t ↦ elim (chosen (bytes_eq sign (codes ",")) (names after) (Err (fault_at place Unexpected))
@@ -114,7 +115,7 @@ coalition_found ts team rest e = by_sign (follows (codes "<<") ts) refl e
         same_read IsCoalition ts (Some []) team after rest (record {
           tokens = codes "<<" ∷ codes ">>" ∷ [];
           spans = (place, inside, at, (close.0, after, close.1, refl));
-          spells = (refl, tt);
+          spells = (refl, All-nil IsWord);
         }) e
     by_end inside place at None end e =
         let b = bind_ok (names inside) (λ x. Ok (Some x.0, x.1)) (team, rest) e in

@@ -2,8 +2,9 @@
 use Rattle.std.proofs.Common.{◌≡◌, ◌∙◌, ℕ, List, [], ◌∷◌, ◌++◌, Bool, true, false, cond, Option, Some, None, Ok, Err}
 use Rattle.std.proofs.Common.{refl, ap, sym, subst, arith}
 use Rattle.std.specs.Prelude.{codes, bytes_eq, ◌==◌, ◌&&◌}
-use Rattle.std.specs.List.{AllByRecursion}
+use Rattle.std.specs.List.{All}
 use Rattle.std.proofs.lemmas.Bool.Decides.{nat_tests}
+use Rattle.std.proofs.lemmas.List.Elements.{All-head, All-tail}
 use Rattle.fractions.specs.Fraction.{Fraction}
 use Rattle.fractions.specs.Number.{number_said}
 use Rattle.fractions.proofs.Said.{number-again}
@@ -39,16 +40,18 @@ word_read : (place : ℕ) (word : List ℕ) (after : Tokens) → is_word word �
 word_read place word after w =
     ap (λ b. cond b (with_name word (further_names after)) (Err (fault_at place Unexpected))) w
 
-names_again : (name : List ℕ) (others : List (List ℕ)) (ts rest : Tokens) → AllByRecursion IsWord (name ∷ others)
+names_again : (name : List ℕ) (others : List (List ℕ)) (ts rest : Tokens) → All IsWord (name ∷ others)
     → Spans ts (with_commas (name ∷ others) ++ codes ">>" ∷ []) rest → names ts ≡ Ok (name ∷ others, rest)
 names_again name [] ts rest words s =
     let end = s.3 in
-    ap names s.2 ∙ word_read s.0 name s.1 words.0 ∙ ap (λ t. with_name name (further_names t)) end.2
+    ap names s.2 ∙ word_read s.0 name s.1 (All-head IsWord name [] words)
+    ∙ ap (λ t. with_name name (further_names t)) end.2
     ∙ ap (λ (t : Tokens). Ok (name ∷ [], t)) end.3
 names_again name (other ∷ more) ts rest words s =
     let comma = s.3 in
-    ap names s.2 ∙ word_read s.0 name s.1 words.0 ∙ ap (λ t. with_name name (further_names t)) comma.2
-    ∙ ap (with_name name) (names_again other more comma.1 rest words.1 comma.3)
+    ap names s.2 ∙ word_read s.0 name s.1 (All-head IsWord name (other ∷ more) words)
+    ∙ ap (λ t. with_name name (further_names t)) comma.2
+    ∙ ap (with_name name) (names_again other more comma.1 rest (All-tail IsWord name (other ∷ more) words) comma.3)
 
 pub coalition_again : (us : List (List ℕ)) (team : Option (List (List ℕ))) → IsCoalition us team → (ts rest : Tokens)
     → Spans ts us rest → follows (codes "<<") rest ≡ None → coalition ts ≡ Ok (team, rest)
@@ -70,12 +73,15 @@ coalition_again us (Some (name ∷ others)) d ts rest s none =
     ap coalition t.2 ∙ ap (λ o. where_next o (some_names (names t.1)) (λ after. Ok (Some [], after)))
     (no_end others t.1 t.3) ∙ ap some_names (names_again name others t.1 rest d.1 t.3)
   where
+    first : IsWord name
+    first = All-head IsWord name others d.1
+
     no_end : (more : List (List ℕ)) (inside : Tokens) → Spans inside (with_commas (name ∷ more) ++ codes ">>" ∷ []) rest
         → follows (codes ">>") inside ≡ None
     no_end [] inside s =
-        ap (follows (codes ">>")) s.2 ∙ ap (λ b. cond b (Some s.1) None) (not_a_sign 62 (62 ∷ []) name refl d.1.0)
+        ap (follows (codes ">>")) s.2 ∙ ap (λ b. cond b (Some s.1) None) (not_a_sign 62 (62 ∷ []) name refl first)
     no_end (other ∷ more) inside s =
-        ap (follows (codes ">>")) s.2 ∙ ap (λ b. cond b (Some s.1) None) (not_a_sign 62 (62 ∷ []) name refl d.1.0)
+        ap (follows (codes ">>")) s.2 ∙ ap (λ b. cond b (Some s.1) None) (not_a_sign 62 (62 ∷ []) name refl first)
 
 -- 2. Bounds.
 

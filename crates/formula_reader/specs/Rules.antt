@@ -1,6 +1,6 @@
 -- The grammar of formulas is given by rules, which say which lists of tokens spell which tree.
 use Rattle.std.specs.Prelude.{◌≡◌, ◌≤◌, ℕ, suc, true, List, [], ◌∷◌, ◌++◌, length, Option, Some, None, codes}
-use Rattle.std.specs.List.{AllByRecursion}
+use Rattle.std.specs.List.{All}
 use Rattle.fractions.specs.Fraction.{Fraction}
 use Rattle.fractions.specs.Number.{DenotesNumber}
 use Rattle.formula_reader.specs.declared.formula.Bound.{Bound}
@@ -31,7 +31,7 @@ IsWord token = is_word token ≡ true
 -- coalition = "<<" [ word { "," word } ] ">>", or none
 abbrev pub IsCoalition : List (List ℕ) → Option (List (List ℕ)) → Type 0
 IsCoalition ts None = ts ≡ []
-IsCoalition ts (Some names) = (ts ≡ codes "<<" ∷ (with_commas names ++ codes ">>" ∷ [])) × AllByRecursion IsWord names
+IsCoalition ts (Some names) = (ts ≡ codes "<<" ∷ (with_commas names ++ codes ">>" ∷ [])) × All IsWord names
 
 -- The token is a number of this value, which is at most 1.
 pub record IsThreshold (token : List ℕ) (p : Fraction) : Type 0 where

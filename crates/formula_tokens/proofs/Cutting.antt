@@ -2,9 +2,10 @@
 use Rattle.std.proofs.Common.{◌≡◌, ◌∙◌, ◌+◌, ◌-◌, ◌≤◌, inl, inr, ℕ, zero, suc, List, [], ◌∷◌, ◌++◌, length, take, drop}
 use Rattle.std.proofs.Common.{true, cond, refl, ap, sym, subst, arith, nat_lt}
 use Rattle.std.specs.Prelude.{◌==◌, ◌&&◌}
-use Rattle.std.specs.List.{AllByRecursion}
+use Rattle.std.specs.List.{All}
 use Rattle.std.proofs.Math.Seq.{take-append_seam, drop-append_seam}
 use Rattle.std.proofs.lemmas.List.{length-append, take-append-drop}
+use Rattle.std.proofs.lemmas.List.Elements.{All-nil, All-cons}
 use Rattle.text_lines.specs.Text.{is_digit}
 use Rattle.formula_tokens.specs.declared.front.Front.{Front}
 use Rattle.formula_tokens.specs.declared.front.Front.TheVariants.{Blank, Spelling, Unclosed, Strange}
@@ -151,7 +152,7 @@ pub tokens_cut : (text : List ℕ) (tokens : List (List ℕ)) → AreTokens (tok
 tokens_cut text tokens a = read_cut text 0 0 tokens (omega arith) a
 
 -- each token of a text has a spelling
-pub cut_spelled : (text : List ℕ) (tokens : List (List ℕ)) → AreCut text tokens → AllByRecursion IsSpelling tokens
-cut_spelled _ _ nothing = tt
+pub cut_spelled : (text : List ℕ) (tokens : List (List ℕ)) → AreCut text tokens → All IsSpelling tokens
+cut_spelled _ _ nothing = All-nil IsSpelling
 cut_spelled _ _ (blank b rest tokens e d) = cut_spelled rest tokens d
-cut_spelled _ _ (token spelling rest tokens l d) = (l.is, cut_spelled rest tokens d)
+cut_spelled _ _ (token spelling rest tokens l d) = All-cons IsSpelling spelling tokens l.is (cut_spelled rest tokens d)

@@ -1,9 +1,10 @@
 -- More goals and fewer dead states give no smaller values.
 use Rattle.std.proofs.Common.{◌≡◌, ◌<◌, ◌≤◌, ◌*◌, ◌/◌, ◌+◌, ◌^◌, ℕ, zero, suc, Bool, true, false, List, [], ◌∷◌, length}
 use Rattle.std.proofs.Common.{get_or, arith, refl, sum_by}
-use Rattle.std.specs.List.{AllByRecursion}
+use Rattle.std.specs.List.{All}
 use Rattle.std.specs.Bool.{if◌then◌else◌}
 use Rattle.std.proofs.Math.Nat.{mul-le-mul_left}
+use Rattle.std.proofs.lemmas.List.Elements.{All-head, All-tail}
 use Rattle.std.proofs.lemmas.List.Sums.{sum_by-cons}
 use Rattle.game_model.specs.declared.game.Edge.{Edge}
 use Rattle.game_model.specs.declared.game.Side.{Side}
@@ -12,7 +13,6 @@ use Rattle.game_model.specs.Query.{Query, is_goal, is_dead, side_at}
 use Rattle.game_model.specs.Values.{optimum, weighted_sum, denominator, numerator_of, numerator}
 use Rattle.game_model.specs.Limits.{unit}
 use Rattle.game_model.specs.Bounds.{IsNear, IsHigh}
-use Rattle.game_model.proofs.Each.{AllByRecursion-always, AllByRecursion-weaker}
 use Rattle.game_model.proofs.Choices.{IsChoiceOf, AreChoicesOf}
 use Rattle.game_model.proofs.Best.{optimum-le, weighted_sum-le}
 use Rattle.game_model.proofs.Rises.{numerator_of-most}
@@ -58,11 +58,11 @@ module _ (game : List (List Distribution)) (sides : List Side) (goals deads more
       let each : 1
       * optimum (side_at narrow s) (λ m. D / m.total * weighted_sum (numerator narrow k) m.edges) (choices_of game s)
       ≤ 1 * optimum (side_at wide s) (λ m. D / m.total * weighted_sum (numerator wide k) m.edges) (choices_of game s) =
-      optimum-le (side_at narrow s) _ _ 1 1 (choices_of game s)
-      (AllByRecursion-always _ (λ m.
+      optimum-le (side_at narrow s) _ _ 1 1 (choices_of game s) (λ i d l.
+      let m : Distribution = get_or (choices_of game s) i d in
       scaled-le (D / m.total) (weighted_sum (numerator narrow k) m.edges) (weighted_sum (numerator wide k) m.edges)
       (weighted_sum-le (numerator narrow k) (numerator wide k) 1 1 m.edges
-      (AllByRecursion-always _ (λ e. omega (arith, numerator-wider k e.to)) m.edges))) (choices_of game s)) in
+      (λ j d _. omega (arith, numerator-wider k (get_or m.edges j d).to)))) in
       step-wider (is_goal narrow s) (is_dead narrow s) (is_goal wide s) (is_dead wide s) (D ^ suc k) _ _ (rises s)
       (falls s) (omega (arith, each))
       (numerator_of-most narrow (choices_of game) chosen (suc k) s)
@@ -91,7 +91,7 @@ term-wider true false weight more = let no : false ≡ true = more refl in absur
 term-wider false there weight more = let at : 0 ≤ (if there then weight else 0) = omega arith in at
 
 terms-wider : (n : ℕ) (here there : ℕ → Bool) (edges : List Edge) → ((s : ℕ) → s < n → here s ≡ true → there s ≡ true)
-    → AllByRecursion (λ e. e.to < n) edges → 1 * sum_by (λ e. if here e.to then e.weight else 0) edges
+    → All (λ e. e.to < n) edges → 1 * sum_by (λ e. if here e.to then e.weight else 0) edges
     ≤ 1 * sum_by (λ e. if there e.to then e.weight else 0) edges
 terms-wider n here there [] more inside = omega arith
 terms-wider n here there (e ∷ es) more inside =
@@ -101,8 +101,8 @@ terms-wider n here there (e ∷ es) more inside =
     )
     (omega (
       arith,
-      term-wider (here e.to) (there e.to) e.weight (more e.to inside.0),
-      terms-wider n here there es more inside.1,
+      term-wider (here e.to) (there e.to) e.weight (more e.to (All-head (λ (d : Edge). d.to < n) e es inside)),
+      terms-wider n here there es more (All-tail (λ (d : Edge). d.to < n) e es inside),
     ))
 
 -- the more states are hoped for, the likelier one of them is next
@@ -113,7 +113,8 @@ next_numerator-wider q here there chosen more s =
     let D : ℕ = denominator q.game in
     let each : 1 * next_numerator q here s ≤ 1 * next_numerator q there s =
     optimum-le (side_at q s) _ _ 1 1 (choices_of q.game s)
-    (AllByRecursion-weaker (IsChoiceOf q.game) _
-    (λ m fits. scaled-le (D / m.total) _ _ (terms-wider (length q.game) here there m.edges more fits.inside))
-    (choices_of q.game s) (chosen.each s)) in
+    (λ i d l.
+    let m : Distribution = get_or (choices_of q.game s) i d in
+    let fits : IsChoiceOf q.game m = chosen.each s i d l in
+    scaled-le (D / m.total) _ _ (terms-wider (length q.game) here there m.edges more fits.inside)) in
     omega (arith, each)

@@ -3,14 +3,12 @@ use Rattle.std.proofs.Common.{◌≡◌, ◌<◌, ◌≤◌, ◌*◌, ◌/◌, �
 use Rattle.std.proofs.Common.{arith, subst, refl}
 use Rattle.std.specs.Bool.{if◌then◌else◌}
 use Rattle.std.proofs.Math.Nat.{div-lt_iff_lt-mul, le-div_iff_mul-le}
-use Rattle.game_model.specs.declared.game.Edge.{Edge}
 use Rattle.game_model.specs.declared.game.Side.{Side}
 use Rattle.game_model.specs.Game.{Distribution, choices_of}
 use Rattle.game_model.specs.Query.{Query, IsQuery, is_goal, is_dead, side_at}
 use Rattle.game_model.specs.Values.{optimum, weighted_sum}
 use Rattle.game_model.specs.Limits.{unit}
 use Rattle.game_model.specs.Rounded.{down_steps, opening}
-use Rattle.game_model.proofs.Each.{AllByRecursion-weaker}
 use Rattle.game_model.proofs.Choices.{IsChoiceOf, AreChoicesOf, AreChoicesOf-choices_of}
 use Rattle.game_model.proofs.Best.{optimum-le, weighted_sum-le, weighted_sum-most}
 use Rattle.game_model.proofs.Rises.{bellman-most}
@@ -58,8 +56,7 @@ module _ (round : ℕ → ℕ → ℕ) (is : IsRounding round) (game : List (Lis
       → 1 * round (weighted_sum v m.edges) m.total ≤ 1 * round (weighted_sum w m.edges) m.total
   value-rises v w m fits h =
       let sums : 1 * weighted_sum v m.edges ≤ 1 * weighted_sum w m.edges =
-      weighted_sum-le v w 1 1 m.edges (AllByRecursion-weaker (λ (e : Edge). e.to < length game) _
-      (λ e inside. omega (arith, h e.to inside)) m.edges fits.inside) in
+      weighted_sum-le v w 1 1 m.edges (λ i d l. omega (arith, h _ (fits.inside i d l))) in
       omega (
         arith,
         is.rises (weighted_sum v m.edges) (weighted_sum w m.edges) m.total fits.positive (omega (arith, sums)),
@@ -69,15 +66,14 @@ module _ (round : ℕ → ℕ → ℕ) (is : IsRounding round) (game : List (Lis
       → round (weighted_sum v m.edges) m.total ≤ unit
   value-most v m fits h =
       is.most (weighted_sum v m.edges) m.total unit fits.positive
-      (subst (λ w. weighted_sum v m.edges ≤ w * unit) fits.sums (weighted_sum-most v unit m.edges
-      (AllByRecursion-weaker (λ (e : Edge). e.to < length game) _ (λ e inside. h e.to inside) m.edges fits.inside)))
+      (subst (λ w. weighted_sum v m.edges ≤ w * unit) fits.sums
+      (weighted_sum-most v unit m.edges (λ i d l. h _ (fits.inside i d l))))
 
 pub step-most : (round : ℕ → ℕ → ℕ) → IsRounding round → (q : Query) → AreChoicesOf q.game (choices_of q.game)
     → (v : ℕ → ℕ) → AreUnits (length q.game) v → (s : ℕ) → step_of round q v s ≤ unit
 step-most round is q chosen v h s =
     bellman-most q (choices_of q.game) unit unit _ s (omega arith)
-    (AllByRecursion-weaker (IsChoiceOf q.game) _ (λ m fits. value-most round is q.game v m fits h)
-    (choices_of q.game s) (chosen.each s))
+    (λ i d l. value-most round is q.game v _ (chosen.each s i d l) h)
 
 pub steps-most : (round : ℕ → ℕ → ℕ) → IsRounding round → (q : Query) → AreChoicesOf q.game (choices_of q.game)
     → (v : ℕ → ℕ) → AreUnits (length q.game) v → (k : ℕ) → AreUnits (length q.game) (steps_from (step_of round q) v k)
@@ -103,8 +99,8 @@ module _ (game : List (List Distribution)) (sides : List Side) (goals deads more
   step-rises round is v w units under s =
       let each : 1 * optimum (side_at narrow s) (λ m. round (weighted_sum v m.edges) m.total) (choices_of game s)
       ≤ 1 * optimum (side_at wide s) (λ m. round (weighted_sum w m.edges) m.total) (choices_of game s) =
-      optimum-le (side_at narrow s) _ _ 1 1 (choices_of game s) (AllByRecursion-weaker (IsChoiceOf game) _
-      (λ m fits. value-rises round is game v w m fits under) (choices_of game s) (chosen.each s)) in
+      optimum-le (side_at narrow s) _ _ 1 1 (choices_of game s)
+      (λ i d l. value-rises round is game v w _ (chosen.each s i d l) under) in
       step-wider (is_goal narrow s) (is_dead narrow s) (is_goal wide s) (is_dead wide s) unit _ _ (rises s) (falls s)
       (omega (arith, each)) (step-most round is narrow chosen v units s)
 

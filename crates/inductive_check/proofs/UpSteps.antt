@@ -7,7 +7,6 @@ use Rattle.game_model.specs.Query.{Query, IsQuery, is_goal, is_dead, side_at}
 use Rattle.game_model.specs.Values.{weighted_sum, optimum}
 use Rattle.game_model.specs.Limits.{unit}
 use Rattle.game_model.specs.Rounded.{up_value, up_step, IsBelow, IsInductive}
-use Rattle.game_model.proofs.Each.{AllByRecursion-weaker}
 use Rattle.game_model.proofs.Choices.{IsChoiceOf, AreChoicesOf, AreChoicesOf-choices_of}
 use Rattle.game_model.proofs.Rises.{bellman-le}
 use Rattle.game_laws.proofs.High.{ceil-above}
@@ -54,8 +53,7 @@ pub up_step-le : (q : Query) (v w : ℕ → ℕ) → AreChoicesOf q.game (choice
 up_step-le q v w chosen h s =
     let step : 1 * up_step q v s ≤ 1 * up_step q w s =
     bellman-le q (choices_of q.game) 1 1 unit unit (up_value v) (up_value w) s (omega arith)
-    (AllByRecursion-weaker (IsChoiceOf q.game) _ (λ m fits. omega (arith, up_value-le q.game v w m fits h))
-    (choices_of q.game s) (chosen.each s)) in
+    (λ i d l. omega (arith, up_value-le q.game v w _ (chosen.each s i d l) h)) in
     omega (arith, step)
 
 -- the lesser of two inductive tables is inductive

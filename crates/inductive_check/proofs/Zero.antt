@@ -1,17 +1,15 @@
 -- A table that is 0 on the zero set has an up step that is 0 there.
-use Rattle.std.proofs.Common.{◌≡◌, ℕ, zero, suc, ◌+◌, ◌-◌, ◌*◌, ◌/◌, ◌^◌, ◌<◌, ◌≤◌, Bool, true, false, List, length}
+use Rattle.std.proofs.Common.{◌≡◌, ℕ, zero, suc, ◌+◌, ◌-◌, ◌*◌, ◌/◌, ◌^◌, ◌<◌, ◌≤◌, Bool, true, false, List}
 use Rattle.std.proofs.Common.{arith, refl, sym, subst, inl, inr, ◌∙◌}
 use Rattle.std.specs.Prelude.{slice_index_or}
 use Rattle.std.proofs.lemmas.Bool.{cases_eq}
 use Rattle.std.proofs.Math.Nat.{one-le-pow, one-le-mul, mul-le-mul_left, mul-le-mul_right}
-use Rattle.game_model.specs.declared.game.Edge.{Edge}
 use Rattle.game_model.specs.Game.{Distribution, choices_of}
 use Rattle.game_model.specs.Query.{Query, IsQuery, states}
 use Rattle.game_model.specs.Values.{weighted_sum, denominator, numerator, numerator_of}
 use Rattle.game_model.specs.Limits.{unit}
 use Rattle.game_model.specs.Rounded.{up_value, up_step}
 use Rattle.game_model.specs.Dual.{IsZeroSet}
-use Rattle.game_model.proofs.Each.{AllByRecursion-weaker}
 use Rattle.game_model.proofs.Choices.{IsChoiceOf, AreChoicesOf, AreChoicesOf-choices_of, denominator-pos}
 use Rattle.game_model.proofs.Best.{weighted_sum-le}
 use Rattle.game_model.proofs.Rises.{bellman-le, numerator_of-rises}
@@ -70,8 +68,7 @@ up_value-scaled : (q : Query) (table : ℕ → ℕ) (k : ℕ) (m : Distribution)
     → 1 * up_value table m ≤ unit * (denominator q.game / m.total * weighted_sum (numerator q k) m.edges)
 up_value-scaled q table k m positive fits below =
     let sums : 1 * weighted_sum table m.edges ≤ unit * weighted_sum (numerator q k) m.edges =
-    weighted_sum-le table (numerator q k) 1 unit m.edges (AllByRecursion-weaker (λ (e : Edge). e.to < length q.game) _
-    (λ e inside. omega (arith, below e.to inside)) m.edges fits.inside) in
+    weighted_sum-le table (numerator q k) 1 unit m.edges (λ i d l. omega (arith, below _ (fits.inside i d l))) in
     let cofactor : 1 ≤ denominator q.game / m.total = quotient-pos (denominator q.game) m.total fits.divides positive in
     omega (
       arith,
@@ -92,8 +89,7 @@ up_step-scaled q table k s posed below =
     let step : 1 * up_step q table s ≤ unit * numerator q (suc k) s =
     bellman-le q (choices_of q.game) 1 unit unit (D ^ suc k) (up_value table) _ s
     (omega (arith, mul-le-mul_left unit one))
-    (AllByRecursion-weaker (IsChoiceOf q.game) _ (λ m fits. up_value-scaled q table k m positive fits below)
-    (choices_of q.game s) (chosen.each s)) in
+    (λ i d l. up_value-scaled q table k _ positive (chosen.each s i d l) below) in
     omega (arith, step)
 
 pub up_step-zero : (q : Query) (marks : List Bool) (table : ℕ → ℕ) → IsQuery q

@@ -3,8 +3,9 @@ use Rattle.std.proofs.Common.{◌≡◌, ◌∙◌, ◌<◌, ◌^◌, ◌+◌, �
 use Rattle.std.proofs.Common.{None, refl, sym, ap, append_assoc, arith}
 use Rattle.std.proofs.lemmas.Bool.{and_parts}
 use Rattle.std.specs.Prelude.{◌==◌, nat_lt, codes, decimal, if◌then◌else◌}
-use Rattle.std.specs.List.{list_all, AllByRecursion}
+use Rattle.std.specs.List.{list_all, All}
 use Rattle.std.proofs.lemmas.Fmt.{decimal_by_steps_wide}
+use Rattle.std.proofs.lemmas.List.Elements.{All-head, All-tail}
 use Rattle.text_lines.specs.Laws.{HasNo}
 use Rattle.text_lines.specs.Parts.{split_first}
 use Rattle.label_lines.proofs.Splits.{split_first-again}
@@ -115,13 +116,17 @@ line-ended line is =
 
 -- 4. The line of a formula.
 
-names-HasNo : (names : List (List ℕ)) → AllByRecursion IsWholeWord names → HasNo 10 (names_spelling names)
+word-HasNo : (name : List ℕ) → IsWholeWord name → HasNo 10 name
+word-HasNo name is = passing in_word refl name is.bytes
+
+names-HasNo : (names : List (List ℕ)) → All IsWholeWord names → HasNo 10 (names_spelling names)
 names-HasNo [] words = tt
-names-HasNo (name ∷ []) words = passing in_word refl name words.0.bytes
+names-HasNo (name ∷ []) words = word-HasNo name (All-head IsWholeWord name [] words)
 names-HasNo (name ∷ other ∷ names) words =
-    HasNo-append name (codes "," ++ names_spelling (other ∷ names)) (passing in_word refl name words.0.bytes)
+    HasNo-append name (codes "," ++ names_spelling (other ∷ names))
+    (word-HasNo name (All-head IsWholeWord name (other ∷ names) words))
     (HasNo-append (codes ",") (names_spelling (other ∷ names)) (plain (codes ",") refl)
-    (names-HasNo (other ∷ names) words.1))
+    (names-HasNo (other ∷ names) (All-tail IsWholeWord name (other ∷ names) words)))
 
 coalition-HasNo : (coalition : Option (List (List ℕ))) → HasWords coalition → HasNo 10 (coalition_spelling coalition)
 coalition-HasNo None words = tt

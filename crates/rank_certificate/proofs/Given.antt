@@ -11,7 +11,7 @@ use Rattle.game_model.specs.Ranks.{HasRankedChoice, Ranked}
 use Rattle.rank_certificate.specs.Ranking.{IsEnough, NeedsRank}
 use Rattle.rank_certificate.specs.Layers.{MustBeRanked, LeadsInto, IsWithin, AreLayered}
 use Rattle.rank_certificate.specs.Carrying.{MayTake, Carries, IsCarriedBy, IsCarried, IsCarriedAt}
-use Rattle.rank_certificate.specs.inside.RankLayers.{IsGrown}
+use Rattle.rank_certificate.specs.inside.RankLayers.{IsFinishedGrowth}
 use Rattle.rank_certificate.proofs.States.{Some-one}
 use Rattle.rank_certificate.proofs.Causes.{asked-given, always-asked, given-asked}
 use Rattle.rank_certificate.proofs.Found.{Some-none}
@@ -113,7 +113,7 @@ module _ (q : Query) (values : List ℕ) (choices : List (Option ℕ)) (vouching
       inr (λ c asked. carried-leads k s inside (λ t there. carried-within k t there) (side_at q s) refl by c asked)
 
   -- where all layers are done, each state has its layer as rank
-  module _ (found taken : List (Option ℕ)) (g : IsGrown q value (Some choices) found taken) where
+  module _ (found taken : List (Option ℕ)) (g : IsFinishedGrowth q value (Some choices) found taken) where
     all-ranked : (s : ℕ) → s < states q → (r : ℕ) × (slice_index_or found s None ≡ Some r)
     all-ranked = all-found q values (Some choices) found taken posed g choices vouching vouched
         (λ s c asked gives. asked)

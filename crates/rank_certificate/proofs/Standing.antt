@@ -18,14 +18,14 @@ use Rattle.rank_certificate.specs.Ranking.{NeedsRank, IsEnough}
 use Rattle.rank_certificate.specs.Faults.{HasToRank}
 use Rattle.rank_certificate.specs.Carrying.{CanBeRanked, MayTake, Carries, IsCarriedBy, IsCarried, IsCarriedAt}
 use Rattle.rank_certificate.specs.Carrying.{IsFirstCarrying, IsChosen, IsChosenAt, IsLayeredPlan, Stands}
-use Rattle.rank_certificate.specs.inside.RankLayers.{IsGrown, AreFollowed}
+use Rattle.rank_certificate.specs.inside.RankLayers.{IsFinishedGrowth, AreFollowed}
 use Rattle.rank_certificate.proofs.Causes.{given-asked, always-asked}
 use Rattle.rank_certificate.proofs.Found.{Some-none}
 use Rattle.rank_certificate.proofs.Carried.{IsCarried-more, carried-free, suc-parts, next-whole}
-use Rattle.rank_certificate.proofs.Grown.{followed-apart}
+use Rattle.rank_certificate.proofs.NextLayer.{followed-apart}
 
 module _ (q : Query) (values : List ℕ) (only : Option (List (Option ℕ))) (ranks choices : List (Option ℕ))
-    (posed : IsQuery q) (g : IsGrown q (slice_index values) only ranks choices) where
+    (posed : IsQuery q) (g : IsFinishedGrowth q (slice_index values) only ranks choices) where
   abbrev value : ℕ → ℕ
   value = slice_index values
 
@@ -108,7 +108,7 @@ module _ (q : Query) (values : List ℕ) (only : Option (List (Option ℕ))) (ra
 
 -- where every choice may be taken that gives the value
 module _ (q : Query) (values : List ℕ) (ranks choices : List (Option ℕ)) (posed : IsQuery q)
-    (g : IsGrown q (slice_index values) None ranks choices) where
+    (g : IsFinishedGrowth q (slice_index values) None ranks choices) where
   -- where a state has no rank, no choices and ranks make the values ranked
   pub left-unranked : (s : ℕ) → s < states q → slice_index_or ranks s None ≡ None → ¬ CanBeRanked q values
   left-unranked s inside left (given, vouching, vouched) =
@@ -117,10 +117,10 @@ module _ (q : Query) (values : List ℕ) (ranks choices : List (Option ℕ)) (po
       Some-none (slice_index_or ranks s None) found.0 found.1 left
 
   -- and where each has one, they are a plan
-  pub grown-plan : (numbers : List ℕ) → length numbers ≡ states q
+  pub finished-plan : (numbers : List ℕ) → length numbers ≡ states q
       → ((s : ℕ) → s < states q → slice_index_or ranks s None ≡ Some (slice_index numbers s))
       → IsLayeredPlan q values choices numbers
-  grown-plan numbers many each =
+  finished-plan numbers many each =
       let h = g.layers in record {
         many = many;
         as_many = h.as_many;

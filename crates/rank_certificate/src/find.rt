@@ -6,7 +6,7 @@ ghost use Rattle.game_model.specs.Ranks.{Ranked};
 ghost use Rattle.predecessors.specs.Lists.{ArePredecessors};
 ghost use Rattle.rank_certificate.specs.Layers.{IsRankable, AreLayered};
 
-use crate::table::{all_ranks, whole_growth};
+use crate::table::{all_ranks, finished_growth};
 use game_model::Question;
 use game_outside::OutOfMemory;
 use predecessors::Predecessors;
@@ -50,7 +50,7 @@ pub fn find_ranks_over(
     ensures layered { IfOk result (λ ranks. AreLayered question.now values.now choices.now ranks.items) }
 {
     question.invariant();
-    let layers = whole_growth(alloc, question, values, Some(choices), predecessors)?;
+    let layers = finished_growth(alloc, question, values, Some(choices), predecessors)?;
     let ranks = all_ranks(alloc, &layers.ranks)?;
     Ok(ranks.unwrap())
 }

@@ -6,8 +6,8 @@ ghost use Rattle.game_model.specs.Limits.{unit};
 ghost use Rattle.game_model.specs.Ranks.{Ranked};
 ghost use Rattle.predecessors.specs.Lists.{ArePredecessors};
 ghost use Rattle.rank_certificate.specs.Carrying.{AreOfStates, CanBeRanked, IsLayeredPlan, Stands};
-ghost use Rattle.rank_certificate.specs.inside.RankLayers.{IsGrown};
-ghost use Rattle.rank_certificate.specs.inside.OfAsked.{IsGrownIn};
+ghost use Rattle.rank_certificate.specs.inside.RankLayers.{IsFinishedGrowth};
+ghost use Rattle.rank_certificate.specs.inside.OfAsked.{IsFinishedGrowthIn};
 
 use crate::asked::Asked;
 use crate::check::first_over;
@@ -94,7 +94,7 @@ pub fn rank_standing(
         Ranked question.now values.now plan.choices.items plan.ranks.items)) }
 {
     question.invariant();
-    let layers = whole_growth(alloc, question, values, None, predecessors)?;
+    let layers = finished_growth(alloc, question, values, None, predecessors)?;
     let Some(ranks) = all_ranks(alloc, &layers.ranks)? else {
         return Ok(None);
     };
@@ -105,7 +105,7 @@ pub fn rank_standing(
 }
 
 /// Finds the ranks of all layers, and the choices for them. If choices are given, it takes only these.
-pub fn whole_growth(
+pub fn finished_growth(
     alloc: Global,
     question: &Question,
     values: &[u64],
@@ -116,7 +116,7 @@ pub fn whole_growth(
     requires units { All (λ v. v ≤ unit) values.now }
     requires only { AreOfStates question.now (option_copied only) }
     requires lists { ArePredecessors question.now.game predecessors.now }
-    ensures { IfOk result (λ g. IsGrown question.now (slice_index values.now)
+    ensures { IfOk result (λ g. IsFinishedGrowth question.now (slice_index values.now)
         (option_copied only.entry) g.ranks.items g.choices.items) }
 {
     question.invariant();
@@ -131,7 +131,7 @@ pub fn whole_growth(
 
 /// Finds the ranks of all layers, and the choices for them.
 fn all_layers(alloc: Global, asked: &Asked<'_>) -> Result<RankLayers, OutOfMemory>
-    ensures { IfOk result (λ g. IsGrownIn asked.now g) }
+    ensures { IfOk result (λ g. IsFinishedGrowthIn asked.now g) }
 {
     let mut layers = RankLayers::of_unneeded(alloc, asked)?;
     let mut begin = layers.order.len();

@@ -3,9 +3,10 @@ use Rattle.std.proofs.Common.{◌≡◌, ◌∙◌, ◌-◌, ℕ, List, [], ◌�
 use Rattle.std.proofs.Common.{sym, subst, arith}
 use Rattle.std.proofs.lemmas.Bool.{and_from}
 use Rattle.std.specs.Prelude.{◌||◌, codes}
-use Rattle.std.specs.List.{list_all, AllByRecursion}
+use Rattle.std.specs.List.{list_all, All}
 use Rattle.std.proofs.Math.Seq.{take-append_seam}
 use Rattle.std.proofs.lemmas.List.{length-append}
+use Rattle.std.proofs.lemmas.List.Elements.{All-nil, All-cons, All-head, All-tail}
 use Rattle.fractions.specs.Fraction.{Fraction}
 use Rattle.text_lines.specs.Text.{is_digit}
 use Rattle.formula_reader.specs.declared.formula.Bound.{Bound}
@@ -18,13 +19,14 @@ use Rattle.rpatl_syntax.specs.Spellable.{IsWholeWord, HasWords, IsShare, HasShar
 use Rattle.formula_tokens.proofs.Fronts.{word_no_quote, digit_no_quote, digit_begins_no_word, long_is_other}
 use Rattle.formula_tokens.proofs.Fronts.{short_is_other}
 
-pub all_left : (ts us : List (List ℕ)) → AllByRecursion IsSpelling (ts ++ us) → AllByRecursion IsSpelling ts
-all_left [] us a = tt
-all_left (t ∷ ts) us a = (a.0, all_left ts us a.1)
+pub all_left : (ts us : List (List ℕ)) → All IsSpelling (ts ++ us) → All IsSpelling ts
+all_left [] us a = All-nil IsSpelling
+all_left (t ∷ ts) us a =
+    All-cons IsSpelling t ts (All-head IsSpelling t (ts ++ us) a) (all_left ts us (All-tail IsSpelling t (ts ++ us) a))
 
-pub all_right : (ts us : List (List ℕ)) → AllByRecursion IsSpelling (ts ++ us) → AllByRecursion IsSpelling us
+pub all_right : (ts us : List (List ℕ)) → All IsSpelling (ts ++ us) → All IsSpelling us
 all_right [] us a = a
-all_right (t ∷ ts) us a = all_right ts us a.1
+all_right (t ∷ ts) us a = all_right ts us (All-tail IsSpelling t (ts ++ us) a)
 
 pub unquoted-quoted : (name : List ℕ) → unquoted (34 ∷ (name ++ 34 ∷ [])) ≡ name
 unquoted-quoted name =
@@ -55,20 +57,27 @@ word_kept _ (quoted_name name is) e = cc e
 word_kept _ (long_sign b c f) e = cc (e, (long_is_other b c [] f).word)
 word_kept _ (short_sign b f) e = cc (e, (short_is_other b [] f).word)
 
-words_whole : (name : List ℕ) (others : List (List ℕ)) → AllByRecursion IsWord (name ∷ others)
-    → AllByRecursion IsSpelling (with_commas (name ∷ others) ++ codes ">>" ∷ [])
-    → AllByRecursion IsWholeWord (name ∷ others)
-words_whole name [] w a = (word_kept name a.0 w.0, tt)
-words_whole name (other ∷ more) w a = (word_kept name a.0 w.0, let rest = a.1 in words_whole other more w.1 rest.1)
+words_whole : (name : List ℕ) (others : List (List ℕ)) → All IsWord (name ∷ others)
+    → All IsSpelling (with_commas (name ∷ others) ++ codes ">>" ∷ []) → All IsWholeWord (name ∷ others)
+words_whole name [] w a =
+    let first : IsSpelling name = All-head IsSpelling name (codes ">>" ∷ []) a in
+    All-cons IsWholeWord name [] (word_kept name first (All-head IsWord name [] w)) (All-nil IsWholeWord)
+words_whole name (other ∷ more) w a =
+    let back = with_commas (other ∷ more) ++ codes ">>" ∷ [] in
+    let first : IsSpelling name = All-head IsSpelling name (codes "," ∷ back) a in
+    let rest : All IsSpelling back =
+    All-tail IsSpelling (codes ",") back (All-tail IsSpelling name (codes "," ∷ back) a) in
+    All-cons IsWholeWord name (other ∷ more) (word_kept name first (All-head IsWord name (other ∷ more) w))
+    (words_whole other more (All-tail IsWord name (other ∷ more) w) rest)
 
 pub coalition_kept : (us : List (List ℕ)) (team : Option (List (List ℕ))) → IsCoalition us team
-    → AllByRecursion IsSpelling us → HasWords team
+    → All IsSpelling us → HasWords team
 coalition_kept us None d a = tt
-coalition_kept us (Some []) d a = tt
+coalition_kept us (Some []) d a = All-nil IsWholeWord
 coalition_kept us (Some (name ∷ others)) d a =
-    let P : List (List ℕ) → Type 0 = λ vs. AllByRecursion IsSpelling vs in
-    let b : AllByRecursion IsSpelling (codes "<<" ∷ (with_commas (name ∷ others) ++ codes ">>" ∷ [])) = subst P d.0 a in
-    words_whole name others d.1 b.1
+    let back = with_commas (name ∷ others) ++ codes ">>" ∷ [] in
+    let b : All IsSpelling (codes "<<" ∷ back) = subst (All IsSpelling) d.0 a in
+    words_whole name others d.1 (All-tail IsSpelling (codes "<<") back b)
 
 share_of : (sign : List ℕ) (us : List (List ℕ)) (p : Fraction) → IsComparison sign us p → IsShare p
 share_of sign us p d = let t = d.2 in record { fraction = t.value.fraction; small = t.small }

@@ -3,8 +3,9 @@ use Rattle.std.proofs.Common.{◌≡◌, ◌∙◌, ◌+◌, ℕ, List, [], ◌�
 use Rattle.std.proofs.Common.{subst, arith, append_assoc}
 use Rattle.std.proofs.lemmas.Bool.{and_parts}
 use Rattle.std.specs.Prelude.{◌==◌, ◌||◌, ◌&&◌, codes}
-use Rattle.std.specs.List.{list_all, AllByRecursion}
+use Rattle.std.specs.List.{list_all, All}
 use Rattle.std.proofs.lemmas.List.{length-append}
+use Rattle.std.proofs.lemmas.List.Elements.{All-head, All-tail}
 use Rattle.std.proofs.lemmas.Bool.Decides.{nat_tests}
 use Rattle.text_lines.specs.Text.{is_digit}
 use Rattle.formula_tokens.specs.declared.front.Front.TheVariants.{Spelling}
@@ -99,15 +100,20 @@ lays_word (b ∷ bytes) rest w a e =
     lays_token b bytes rest
     (front_word b (bytes ++ rest) w ∙ ap (λ n. Spelling (n + 1)) (word_goes_on bytes rest parts.1 e))
 
-pub lays_names : (name : List ℕ) (others : List (List ℕ)) → AllByRecursion IsWholeWord (name ∷ others) → (rest : List ℕ)
+lays_whole_word : (word rest : List ℕ) → IsWholeWord word → Ends rest → Lays word (word ∷ []) rest
+lays_whole_word word rest is e = lays_word word rest is.begins is.bytes e
+
+pub lays_names : (name : List ℕ) (others : List (List ℕ)) → All IsWholeWord (name ∷ others) → (rest : List ℕ)
     → Ends rest → Lays (names_spelling (name ∷ others)) (with_commas (name ∷ others)) rest
-lays_names name [] words rest e = lays_word name rest words.0.begins words.0.bytes e
+lays_names name [] words rest e = lays_whole_word name rest (All-head IsWholeWord name [] words) e
 lays_names name (other ∷ more) words rest e =
     lays_append name (codes "," ++ names_spelling (other ∷ more)) (name ∷ [])
     (codes "," ∷ with_commas (other ∷ more)) rest
-    (lays_word name ((codes "," ++ names_spelling (other ∷ more)) ++ rest) words.0.begins words.0.bytes refl)
+    (lays_whole_word name ((codes "," ++ names_spelling (other ∷ more)) ++ rest)
+    (All-head IsWholeWord name (other ∷ more) words) refl)
     (lays_append (codes ",") (names_spelling (other ∷ more)) (codes "," ∷ []) (with_commas (other ∷ more)) rest
-    (lays_comma (names_spelling (other ∷ more) ++ rest)) (lays_names other more words.1 rest e))
+    (lays_comma (names_spelling (other ∷ more) ++ rest))
+    (lays_names other more (All-tail IsWholeWord name (other ∷ more) words) rest e))
 
 -- numbers
 

@@ -1,7 +1,8 @@
 -- How deep a printed state formula nests, and that what was read nests no deeper.
 use Rattle.std.proofs.Common.{◌≡◌, ◌+◌, ◌≤◌, ℕ, suc, List, [], ◌∷◌, ◌++◌, Bool, true, false, cond, refl, arith, nat_lt}
 use Rattle.std.specs.Prelude.{codes, max}
-use Rattle.std.specs.List.{AllByRecursion}
+use Rattle.std.specs.List.{All}
+use Rattle.std.proofs.lemmas.List.Elements.{All-head, All-tail}
 use Rattle.std.proofs.Math.Nat.{max-le}
 use Rattle.std.proofs.lemmas.Bool.Decides.{nat_tests}
 use Rattle.formula_reader.specs.declared.formula.PathKind.{PathKind}
@@ -68,26 +69,33 @@ inner_needs room x y a b =
     let right : need y ≤ room = omega (arith, need-below 0 y (need y), b) in
     omega (arith, max-le left right)
 
+-- what stands behind a token
+all_behind : (ts : List (List ℕ)) (token : List ℕ) (us : List (List ℕ)) → All IsSpelling (ts ++ token ∷ us)
+    → All IsSpelling us
+all_behind ts token us a = All-tail IsSpelling token us (all_right ts (token ∷ us) a)
+
 mutual
-  unary_suits : (room : ℕ) (us : List (List ℕ)) (x : State) → IsUnary room us x
-      → AllByRecursion IsSpelling us → Suits 3 room x
+  unary_suits : (room : ℕ) (us : List (List ℕ)) (x : State) → IsUnary room us x → All IsSpelling us → Suits 3 room x
   unary_suits _ _ _ (negation room us x d) a =
-      let inner = unary_suits room us x d a.1 in
+      let inner = unary_suits room us x d (All-tail IsSpelling (codes "!") us a) in
       record { nests = omega (arith, inner.nests); parts = inner.parts }
   unary_suits _ _ _ (brackets room us x d) a =
-      let inner = state_suits room us x d (all_left us (codes ")" ∷ []) a.1) in
+      let behind = All-tail IsSpelling (codes "(") (us ++ codes ")" ∷ []) a in
+      let inner = state_suits room us x d (all_left us (codes ")" ∷ []) behind) in
       record {
         nests = omega (arith, need-below 0 x (need x), need-above 3 x (need x), inner.nests);
         parts = inner.parts;
       }
   unary_suits _ _ _ (everywhere room) a = record { nests = omega arith; parts = tt }
   unary_suits _ _ _ (nowhere room) a = record { nests = omega arith; parts = tt }
-  unary_suits _ _ _ (label room token q) a = record { nests = omega arith; parts = label_kept token q a.0 }
+  unary_suits _ _ _ (label room token q) a =
+      record { nests = omega arith; parts = label_kept token q (All-head IsSpelling token [] a) }
   unary_suits _ _ _ (inside room team asks us f n b c d) a =
       let back = codes "[" ∷ (us ++ codes "]" ∷ []) in
       let behind_team = all_right team (asks ++ back) a in
-      let behind_bound = all_right asks back behind_team in
-      let sides = path_suits room us f.kind f.left f.right d (all_left us (codes "]" ∷ []) behind_bound.1) in
+      let behind_bound =
+      All-tail IsSpelling (codes "[") (us ++ codes "]" ∷ []) (all_right asks back behind_team) in
+      let sides = path_suits room us f.kind f.left f.right d (all_left us (codes "]" ∷ []) behind_bound) in
       let head : HasHead f.coalition f.bound f.kind f.left = record {
         words = coalition_kept team f.coalition n (all_left team (asks ++ back) a);
         threshold = threshold_kept asks f.bound b c;
@@ -98,58 +106,54 @@ mutual
         parts = (head, sides.left.parts, sides.right.parts);
       }
 
-  both_suits : (room : ℕ) (us : List (List ℕ)) (x : State) → IsBoth room us x
-      → AllByRecursion IsSpelling us → Suits 2 room x
+  both_suits : (room : ℕ) (us : List (List ℕ)) (x : State) → IsBoth room us x → All IsSpelling us → Suits 2 room x
   both_suits _ _ _ (plain_both room us x d) a = looser 2 3 room x (omega arith) (unary_suits room us x d a)
   both_suits _ _ _ (and room us vs x y d e) a =
       let left = both_suits room us x d (all_left us (codes "&" ∷ vs) a) in
-      let right = unary_suits room vs y e (let b = all_right us (codes "&" ∷ vs) a in b.1) in
+      let right = unary_suits room vs y e (all_behind us (codes "&") vs a) in
       record { nests = max-le left.nests right.nests; parts = (left.parts, right.parts) }
 
-  either_suits : (room : ℕ) (us : List (List ℕ)) (x : State) → IsEither room us x
-      → AllByRecursion IsSpelling us → Suits 1 room x
+  either_suits : (room : ℕ) (us : List (List ℕ)) (x : State) → IsEither room us x → All IsSpelling us → Suits 1 room x
   either_suits _ _ _ (plain_either room us x d) a = looser 1 2 room x (omega arith) (both_suits room us x d a)
   either_suits _ _ _ (or room us vs x y d e) a =
       let left = either_suits room us x d (all_left us (codes "|" ∷ vs) a) in
-      let right = both_suits room vs y e (let b = all_right us (codes "|" ∷ vs) a in b.1) in
+      let right = both_suits room vs y e (all_behind us (codes "|") vs a) in
       record { nests = max-le left.nests right.nests; parts = (left.parts, right.parts) }
 
-  pub state_suits : (room : ℕ) (us : List (List ℕ)) (x : State) → IsState room us x
-      → AllByRecursion IsSpelling us → Suits 0 room x
+  pub state_suits : (room : ℕ) (us : List (List ℕ)) (x : State) → IsState room us x → All IsSpelling us → Suits 0 room x
   state_suits _ _ _ (plain_state room us x d) a = looser 0 1 room x (omega arith) (either_suits room us x d a)
   state_suits _ _ _ (implies room us vs x y d e) a =
       let left = state_suits room us x d (all_left us (codes "=>" ∷ vs) a) in
-      let right = either_suits room vs y e (let b = all_right us (codes "=>" ∷ vs) a in b.1) in
+      let right = either_suits room vs y e (all_behind us (codes "=>") vs a) in
       record { nests = max-le left.nests right.nests; parts = (left.parts, right.parts) }
 
   pub path_suits : (room : ℕ) (us : List (List ℕ)) (kind : PathKind) (x y : State) → IsPath room us kind x y
-      → AllByRecursion IsSpelling us → PathSuits room kind x y
+      → All IsSpelling us → PathSuits room kind x y
   path_suits _ _ _ _ _ (reach room us y d) a =
-      record { kind_is = tt; left = all_states room; right = state_suits room us y d a.1 }
+      let behind = All-tail IsSpelling (codes "F") us a in
+      record { kind_is = tt; left = all_states room; right = state_suits room us y d behind }
   path_suits _ _ _ _ _ (reach_within room token us k y n d) a =
-      let b = a.1 in
-      let c = b.1 in
-      record { kind_is = n.small; left = all_states room; right = state_suits room us y d c.1 }
+      let behind = all_behind (codes "F" ∷ codes "<=" ∷ []) token us a in
+      record { kind_is = n.small; left = all_states room; right = state_suits room us y d behind }
   path_suits _ _ _ _ _ (until room us vs x y d e) a =
-      let b = all_right us (codes "U" ∷ vs) a in
       record {
         kind_is = tt;
         left = state_suits room us x d (all_left us (codes "U" ∷ vs) a);
-        right = state_suits room vs y e b.1;
+        right = state_suits room vs y e (all_behind us (codes "U") vs a);
       }
   path_suits _ _ _ _ _ (until_within room us token vs k x y d n e) a =
-      let b = all_right us (codes "U" ∷ codes "<=" ∷ token ∷ vs) a in
-      let c = b.1 in
-      let g = c.1 in
+      let bounded = all_behind us (codes "U") (codes "<=" ∷ token ∷ vs) a in
       record {
         kind_is = n.small;
         left = state_suits room us x d (all_left us (codes "U" ∷ codes "<=" ∷ token ∷ vs) a);
-        right = state_suits room vs y e g.1;
+        right = state_suits room vs y e (all_behind (codes "<=" ∷ []) token vs bounded);
       }
   path_suits _ _ _ _ _ (next room us y d) a =
-      record { kind_is = refl; left = all_states room; right = state_suits room us y d a.1 }
+      let behind = All-tail IsSpelling (codes "X") us a in
+      record { kind_is = refl; left = all_states room; right = state_suits room us y d behind }
   path_suits _ _ _ _ _ (always room us y d) a =
-      record { kind_is = refl; left = all_states room; right = state_suits room us y d a.1 }
+      let behind = All-tail IsSpelling (codes "G") us a in
+      record { kind_is = refl; left = all_states room; right = state_suits room us y d behind }
 
 -- a side of a path
 pub side : (x : State) → Suits 0 most_nested x → IsSide x

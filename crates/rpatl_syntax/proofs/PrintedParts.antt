@@ -1,7 +1,7 @@
 -- The tokens of a printed coalition, bound and path are derived by the rules.
 use Rattle.std.proofs.Common.{◌∙◌, ℕ, List, [], ◌∷◌, ◌++◌, Option, Some, None, refl, ap, sym, subst, append_assoc}
 use Rattle.std.specs.Prelude.{codes, decimal}
-use Rattle.std.specs.List.{AllByRecursion}
+use Rattle.std.proofs.lemmas.List.Elements.{All-weaker}
 use Rattle.fractions.specs.Fraction.{Fraction}
 use Rattle.formula_reader.specs.declared.formula.Bound.{Bound}
 use Rattle.formula_reader.specs.declared.formula.Bound.TheVariants.{AtLeast, Above, AtMost, Below, AskMax, AskMin}
@@ -18,13 +18,9 @@ use Rattle.rpatl_syntax.proofs.PrintedTokens.{team_tokens, bound_tokens, until_t
 
 -- 1. Coalitions and bounds.
 
-words_are : (names : List (List ℕ)) → AllByRecursion IsWholeWord names → AllByRecursion IsWord names
-words_are [] w = tt
-words_are (name ∷ names) w = (w.0.begins, words_are names w.1)
-
 pub team_derived : (team : Option (List (List ℕ))) → HasWords team → IsCoalition (team_tokens team) team
 team_derived None w = refl
-team_derived (Some names) w = (refl, words_are names w)
+team_derived (Some names) w = (refl, All-weaker IsWholeWord IsWord (λ name is. is.begins) names w)
 
 share_derived : (sign : List ℕ) (p : Fraction) → IsShare p
     → IsComparison sign (codes "P" ∷ sign ∷ fraction_spelling p ∷ []) p

@@ -3,7 +3,8 @@ use Rattle.std.proofs.Common.{◌≡◌, ◌∙◌, ◌+◌, ◌≤◌, ℕ, Lis
 use Rattle.std.proofs.Common.{ap, sym, subst}
 use Rattle.std.specs.Prelude.{codes, IfOk}
 use Rattle.game_outside.specs.declared.OutOfMemory.{OutOfMemory}
-use Rattle.std.specs.List.{AllByRecursion}
+use Rattle.std.specs.List.{All}
+use Rattle.std.proofs.lemmas.List.Elements.{All-tail}
 use Rattle.std.proofs.lemmas.List.{append-nil}
 use Rattle.formula_reader.specs.Formula.{Tree}
 use Rattle.formula_reader.specs.Grammar.{formula, formula_said}
@@ -32,13 +33,13 @@ pub spellable : (text : List ℕ) (f : Tree) → DenotesFormula text f → IsSpe
 spellable text f d =
     let g = d.formula in
     let back = codes "[" ∷ (g.sides ++ codes "]" ∷ []) in
-    let P : List (List ℕ) → Type 0 = λ us. AllByRecursion IsSpelling us in
-    let all : AllByRecursion IsSpelling (g.team ++ (g.asks ++ back)) =
-    subst P g.whole (cut_spelled text d.tokens d.cut) in
+    let all : All IsSpelling (g.team ++ (g.asks ++ back)) =
+    subst (All IsSpelling) g.whole (cut_spelled text d.tokens d.cut) in
     let behind_team = all_right g.team (g.asks ++ back) all in
-    let behind_bound = all_right g.asks back behind_team in
+    let behind_bound =
+    All-tail IsSpelling (codes "[") (g.sides ++ codes "]" ∷ []) (all_right g.asks back behind_team) in
     let sides =
-    path_suits most_nested g.sides f.kind f.left f.right g.path (all_left g.sides (codes "]" ∷ []) behind_bound.1) in
+    path_suits most_nested g.sides f.kind f.left f.right g.path (all_left g.sides (codes "]" ∷ []) behind_bound) in
     record {
       words = coalition_kept g.team f.coalition g.coalition (all_left g.team (g.asks ++ back) all);
       share = bound_kept g.asks f.bound g.bound;

@@ -1,7 +1,7 @@
 -- The grammar can spell these formulas. A formula that a text denotes is one of them, and each of them is read again
 -- from its spelling, unless that is too long.
 use Rattle.std.specs.Prelude.{◌≡◌, ◌≤◌, ◌+◌, ℕ, true, nat_lt, max, List, Option, Some, None, if◌then◌else◌}
-use Rattle.std.specs.List.{list_all, AllByRecursion}
+use Rattle.std.specs.List.{list_all, All}
 use Rattle.fractions.specs.Fraction.{Fraction, IsFraction}
 use Rattle.formula_reader.specs.declared.formula.Bound.{Bound}
 use Rattle.formula_reader.specs.declared.formula.Bound.TheVariants.{AtLeast, Above, AtMost, Below, AskMax, AskMin}
@@ -22,7 +22,7 @@ pub record IsWholeWord (word : List ℕ) : Type 0 where
 -- The players of a coalition have words as names.
 abbrev pub HasWords : Option (List (List ℕ)) → Type 0
 HasWords None = Unit {0}
-HasWords (Some names) = AllByRecursion IsWholeWord names
+HasWords (Some names) = All IsWholeWord names
 
 -- A threshold is a fraction in lowest terms whose denominator is not too great, and is at most 1.
 pub record IsShare (p : Fraction) : Type 0 where

@@ -2,7 +2,7 @@
 use Rattle.std.proofs.Common.{◌≡◌, ℕ, zero, suc, ◌+◌, ◌-◌, ◌*◌, ◌^◌, ◌<◌, ◌≤◌, Bool, true, false, List, length, map}
 use Rattle.std.proofs.Common.{get_or, arith, refl, sym, ap, ◌∙◌, subst, inl, inr, not}
 use Rattle.std.specs.Prelude.{slice_index_or, ◌&&◌, ◌||◌}
-use Rattle.std.specs.List.{AllByRecursion, range_with_len}
+use Rattle.std.specs.List.{All, range_with_len}
 use Rattle.std.proofs.lemmas.Bool.{cases_Bool, cases_lt}
 use Rattle.std.proofs.lemmas.Nat.{pow-add}
 use Rattle.std.proofs.lemmas.List.{get_or-map}
@@ -13,7 +13,6 @@ use Rattle.game_model.specs.declared.game.Side.TheVariants.{Max, Min}
 use Rattle.game_model.specs.Game.{Distribution, no_distribution, no_edge, choices_of, choice_of}
 use Rattle.game_model.specs.Query.{Query, IsQuery, states, is_goal, side_at}
 use Rattle.game_model.specs.Values.{denominator, numerator}
-use Rattle.game_model.proofs.Each.{AllByRecursion-weaker, AllByRecursion-at, AllByRecursion-both}
 use Rattle.game_model.proofs.Choices.{IsChoiceOf, IsChoiceOf-choice_of, denominator-pos}
 use Rattle.attractors.specs.Attractor.{serves, attracts, is_attracted}
 use Rattle.attractors.proofs.Tests.{any-place, any-none, all-each}
@@ -35,7 +34,7 @@ layer q gone (suc r) = map (λ s. slice_index_or (layer q gone r) s false
 
 -- a choice that stays among the marked states, and has a successor of smaller rank
 pub record Nears (q : Query) (marks : List Bool) (rank : ℕ → ℕ) (s : ℕ) (m : Distribution) : Type 0 where
-  pub stays : AllByRecursion (λ e. (e.to < states q) × (slice_index_or marks e.to false ≡ true)) m.edges
+  pub stays : All (λ e. (e.to < states q) × (slice_index_or marks e.to false ≡ true)) m.edges
   pub place : ℕ
   pub within : place < length m.edges
   pub nearer : rank (get_or m.edges place no_edge).to < rank s
@@ -159,13 +158,10 @@ module _ (q : Query) (posed : IsQuery q) (marks : List Bool) (sure : AreAlmostSu
   nears s j is m fits h =
       let both = serves-both (gone_excluded gone) (layer q gone j) m h in
       let one = meets-successor (layer q gone j) m both.1 in
-      let all : AllByRecursion (λ e. (e.to < states q) × (slice_index_or marks e.to false ≡ true)) m.edges =
-      AllByRecursion-weaker (λ (e : Edge). (e.to < states q) × (slice_index_or gone e.to false ≡ false)) _
-      (λ e within. (within.0, not-in _ _ (gone-at e.to within.0) within.1)) m.edges
-      (AllByRecursion-both (λ (e : Edge). e.to < states q) (λ (e : Edge). slice_index_or gone e.to false ≡ false)
-      m.edges fits.inside (any-none (λ (e : Edge). slice_index_or gone e.to false) m.edges both.0)) in
-      let there = AllByRecursion-at (λ (e : Edge). (e.to < states q) × (slice_index_or marks e.to false ≡ true)) m.edges
-      one.0 no_edge one.1 all in
+      let kept = any-none (λ (e : Edge). slice_index_or gone e.to false) m.edges both.0 in
+      let all : All (λ e. (e.to < states q) × (slice_index_or marks e.to false ≡ true)) m.edges =
+      λ i d l. let within = fits.inside i d l in (within, not-in _ _ (gone-at _ within) (kept i d l)) in
+      let there = all one.0 no_edge one.1 in
       let few : (ranking (get_or m.edges one.0 no_edge).to).0 ≤ j =
       ((ranking (get_or m.edges one.0 no_edge).to).1 there.0 there.1).1 j one.2 in
       record { stays = all; place = one.0; within = one.1; nearer = omega (arith, few, is) }
@@ -189,9 +185,8 @@ module _ (q : Query) (posed : IsQuery q) (marks : List Bool) (sure : AreAlmostSu
         let attracted : attracts Min (gone_excluded gone) (layer q gone last.0) (choices_of q.game s) ≡ true =
         sym (ap (λ p. attracts p (gone_excluded gone) (layer q gone last.0) (choices_of q.game s)) side) ∙ last.2 in
         nears s last.0 last.1 (choice_of q.game s c) (IsChoiceOf-choice_of q.game s c posed.game inside within)
-        (AllByRecursion-at (λ m. serves (gone_excluded gone) (layer q gone last.0) m ≡ true)
-        (choices_of q.game s) c no_distribution within
-        (all-each (serves (gone_excluded gone) (layer q gone last.0)) (choices_of q.game s) attracted));
+        (all-each (serves (gone_excluded gone) (layer q gone last.0)) (choices_of q.game s) attracted
+        c no_distribution within);
   }
 
 -- so the almost-sure states have ranks

@@ -9,7 +9,6 @@ use Rattle.game_model.specs.declared.game.Edge.{Edge}
 use Rattle.game_model.specs.Game.{Distribution, no_distribution, choices_of, choice_of}
 use Rattle.game_model.specs.Query.{Query, IsQuery, states}
 use Rattle.game_model.specs.Values.{denominator, numerator}
-use Rattle.game_model.proofs.Each.{AllByRecursion-weaker, AllByRecursion-at, AllByRecursion-both}
 use Rattle.game_model.proofs.Choices.{IsChoiceOf, IsChoiceOf-choice_of}
 use Rattle.attractors.specs.Attractor.{serves, attracts, is_attracted}
 use Rattle.attractors.proofs.Tests.{any-none, all-place}
@@ -32,27 +31,27 @@ module _ (q : Query) (gone set : List Bool) (e k : ℕ) (posed : IsQuery q)
     (away : (t : ℕ) → t < states q → slice_index_or gone t false ≡ true → IsAway q e t)
     (left : (t : ℕ) → t < states q → slice_index_or set t false ≡ false → slice_index_or gone t false ≡ false
     → IsAwayFor q (suc e) k t) where
+  -- a state that is gone, or not of the set
+  away-there : (t : ℕ) → t < states q → slice_index_or set t false ≡ false → IsAwayFor q (suc e) k t
+  away-there t inside unmet = elim (cases_Bool (slice_index_or gone t false)) [
+    | inl out ↦ IsAway-more q e (suc e) t posed (omega arith) (away t inside out) k
+    | inr within ↦ left t inside unmet within
+  ]
+
   -- a choice that leads to a gone state, or to none of the set
   choice-left : (m : Distribution) → IsChoiceOf q.game m → serves (gone_excluded gone) set m ≡ false → IsFar q e k m
   choice-left m fits fails = elim (serves-not (gone_excluded gone) set m fails) [
     | inl leads ↦ far-by-one q gone e k m posed fits away leads
     | inr unmet ↦
-        far-by-all q e k m fits
-        (AllByRecursion-weaker (λ (d : Edge). (d.to < length q.game) × (slice_index_or set d.to false ≡ false)) _
-        (λ d facts. elim (cases_Bool (slice_index_or gone d.to false)) [
-          | inl out ↦ IsAway-more q e (suc e) d.to posed (omega arith) (away d.to facts.0 out) k
-          | inr within ↦ left d.to facts.0 facts.1 within
-        ])
-        m.edges
-        (AllByRecursion-both (λ (d : Edge). d.to < length q.game) (λ (d : Edge). slice_index_or set d.to false ≡ false)
-        m.edges fits.inside (any-none (λ (d : Edge). slice_index_or set d.to false) m.edges unmet)))
+        far-by-all q e k m fits (λ i d l.
+        away-there (get_or m.edges i d).to (fits.inside i d l)
+        (any-none (λ (d : Edge). slice_index_or set d.to false) m.edges unmet i d l))
   ]
 
   any-fails : (choices : List Distribution) (c : ℕ) → c < length choices
       → list_any (serves (gone_excluded gone) set) choices ≡ false
       → serves (gone_excluded gone) set (get_or choices c no_distribution) ≡ false
-  any-fails choices c l fails = AllByRecursion-at (λ m. serves (gone_excluded gone) set m ≡ false) choices c
-      no_distribution l (any-none (serves (gone_excluded gone) set) choices fails)
+  any-fails choices c l fails = any-none (serves (gone_excluded gone) set) choices fails c no_distribution l
 
   -- so a state that the set does not attract is kept away by its choices
   pub side-left : (s : ℕ) → s < states q → is_attracted q (gone_excluded gone) set s ≡ false → SideIsFar q e k s

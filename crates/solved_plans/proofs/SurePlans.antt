@@ -2,8 +2,9 @@
 use Rattle.std.proofs.Common.{◌≡◌, ℕ, ◌*◌, ◌^◌, ◌<◌, ◌≤◌, Bool, true, false, List, [], ◌∷◌, length, map, get_or, arith}
 use Rattle.std.proofs.Common.{refl, sym, ap, ◌∙◌, inl, inr, sum_by, Option, Some, None}
 use Rattle.std.specs.Prelude.{slice_index, slice_index_or, if◌then◌else◌}
-use Rattle.std.specs.List.{AllByRecursion, range_with_len}
+use Rattle.std.specs.List.{All, range_with_len}
 use Rattle.std.proofs.lemmas.Bool.{cases_Bool, cases_lt}
+use Rattle.std.proofs.lemmas.List.Elements.{All-head, All-tail}
 use Rattle.std.proofs.lemmas.List.FromFn.{get_or-map-range_with_len}
 use Rattle.std.proofs.lemmas.List.Sums.{sum_by-cons}
 use Rattle.game_model.specs.declared.game.Edge.{Edge}
@@ -14,7 +15,6 @@ use Rattle.game_model.specs.Query.{Query, IsQuery, states, is_goal, is_dead, sid
 use Rattle.game_model.specs.Values.{weighted_sum, denominator, numerator}
 use Rattle.game_model.specs.Ranks.{Ranked, IsRankedChoice}
 use Rattle.game_model.specs.Tables.{IsTable}
-use Rattle.game_model.proofs.Each.{AllByRecursion-weaker, AllByRecursion-at}
 use Rattle.game_model.proofs.Choices.{IsChoiceOf, IsChoiceOf-choice_of}
 use Rattle.game_model.proofs.Rises.{numerator_of-goal}
 use Rattle.rank_certificate.specs.Carrying.{CanBeRanked}
@@ -40,12 +40,16 @@ value-most true = let at : unit ≤ unit = omega arith in at
 value-most false = let at : 0 ≤ unit = omega arith in at
 
 -- a sum over successors that all have one value
-sum-whole : (v : ℕ → ℕ) (c : ℕ) (edges : List Edge) → AllByRecursion (λ e. v e.to ≡ c) edges
+sum-whole : (v : ℕ → ℕ) (c : ℕ) (edges : List Edge) → All (λ e. v e.to ≡ c) edges
     → sum_by (λ e. e.weight) edges * c ≤ weighted_sum v edges
 sum-whole v c [] h = omega arith
 sum-whole v c (e ∷ es) h =
     rw (sum_by-cons (λ (d : Edge). d.weight * v d.to) e es, sum_by-cons (λ (d : Edge). d.weight) e es)
-    (omega (arith, sum-whole v c es h.1, ap (λ x. e.weight * x) h.0))
+    (omega (
+      arith,
+      sum-whole v c es (All-tail (λ (d : Edge). v d.to ≡ c) e es h),
+      ap (λ x. e.weight * x) (All-head (λ (d : Edge). v d.to ≡ c) e es h),
+    ))
 
 whole-enough : (v t x w u : ℕ) → w ≡ t → v ≡ u → w * u ≤ x → v * t ≤ x
 whole-enough v t x w u same value h = rw (value, ← same) (omega (arith, h))
@@ -74,14 +78,12 @@ module _ (q : Query) (posed : IsQuery q) (marks : List Bool) (sure : AreAlmostSu
       → (m : Distribution) → IsChoiceOf q.game m → Nears q marks rank s m
       → IsRankedChoice (slice_index values) (slice_index (map rank (range_with_len 0 (states q)))) s m
   ranked s inside marked m fits h =
-      let one = AllByRecursion-at (λ (e : Edge). (e.to < states q) × (slice_index_or marks e.to false ≡ true)) m.edges
-      h.place no_edge h.within h.stays in
+      let one = h.stays h.place no_edge h.within in
       record {
         enough = whole-enough (slice_index values s) m.total (weighted_sum (slice_index values) m.edges)
             (sum_by (λ e. e.weight) m.edges) unit fits.sums (sure-value s inside marked)
             (sum-whole (slice_index values) unit m.edges
-            (AllByRecursion-weaker (λ (e : Edge). (e.to < states q) × (slice_index_or marks e.to false ≡ true)) _
-            (λ e both. sure-value e.to both.0 both.1) m.edges h.stays));
+            (λ i d l. let both = h.stays i d l in sure-value _ both.0 both.1));
         place = h.place;
         inside = h.within;
         onward = inr (

@@ -12,7 +12,6 @@ use Rattle.game_model.specs.Values.{weighted_sum}
 use Rattle.game_model.specs.Limits.{unit}
 use Rattle.game_model.specs.Rounded.{down_value, IsBelow}
 use Rattle.game_model.specs.Ranks.{IsRankedChoice, HasRankedChoice, Ranked}
-use Rattle.game_model.proofs.Each.{AllByRecursion-at}
 use Rattle.game_model.proofs.Choices.{IsChoiceOf}
 use Rattle.fixed_bellman.specs.Given.{IsFree, IsGivenBy}
 use Rattle.fixed_bellman.proofs.Tables.{choice_fits, weighted_sum-rises, down_value-pays, leads_high, IsGivenBy-units}
@@ -61,8 +60,7 @@ module _ (q : Query) (h : IsQuery q) (v : List ℕ) (picks : List (Option ℕ)) 
   ranked_here m fits gives =
       let high = leads_high q.game seen m x fits gives in
       let t : ℕ = (slice_index_or m.edges high.0 no_edge).to in
-      let there : t < states q =
-      AllByRecursion-at (λ e. e.to < length q.game) m.edges high.0 no_edge high.1 fits.inside in
+      let there : t < states q = fits.inside high.0 no_edge high.1 in
       let reach : x ≤ slice_index v t = omega (arith, high.2, low t there) in
       let apart : t ≢ i =
       λ same. let at : x ≤ slice_index v i = subst (λ n. x ≤ slice_index v n) same reach in omega arith in

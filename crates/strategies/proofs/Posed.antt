@@ -1,27 +1,26 @@
 -- A game whose lists pass a test, state by state, is a question.
 use Rattle.std.proofs.Common.{◌≡◌, ℕ, zero, suc, ◌<◌, ◌≤◌, Bool, true, false, List, [], ◌∷◌, length, get_or, sym, refl}
 use Rattle.std.proofs.Common.{rules}
-use Rattle.std.specs.List.{AllByRecursion}
 use Rattle.std.specs.Prelude.{slice_index_or}
-use Rattle.game_model.specs.declared.game.Edge.{Edge}
+use Rattle.std.specs.List.{All}
+use Rattle.std.proofs.lemmas.List.Elements.{All-head, All-tail}
 use Rattle.game_model.specs.Limits.{total_bound, most_states, most_choices}
 use Rattle.game_model.specs.Game.{Distribution, IsDistribution, total_of, choices_of, no_distribution}
 use Rattle.game_model.specs.Query.{Query, IsQuery, states, is_goal, is_dead}
 use Rattle.game_model.specs.Rising.{RiseFrom}
-use Rattle.game_model.proofs.Each.{AllByRecursion-at}
 use Rattle.game_model.proofs.RisingEdges.{IsRising-from, weighty-from}
 use Rattle.strategies.specs.worked_games.Games.{coin_loop, give_and_take, lingering}
 
 abbrev Fits : ℕ → Distribution → Type 0
 Fits n m = (0 < length m.edges) × RiseFrom 0 m.edges × (total_of m.edges ≡ m.total) × (m.total < total_bound)
-    × AllByRecursion (λ e. e.to < n) m.edges
+    × All (λ e. e.to < n) m.edges
 
 abbrev AreFit : ℕ → List Distribution → Type 0
-AreFit n choices = (0 < length choices) × (length choices ≤ most_choices) × AllByRecursion (Fits n) choices
+AreFit n choices = (0 < length choices) × (length choices ≤ most_choices) × All (Fits n) choices
 
 abbrev IsFit : Query → Type 0
 IsFit q = (0 < states q) × (states q ≤ most_states) × (length q.sides ≡ states q) × (length q.goals ≡ states q)
-    × (length q.deads ≡ states q) × AllByRecursion (AreFit (states q)) q.game
+    × (length q.deads ≡ states q) × All (AreFit (states q)) q.game
 
 distribution : (n : ℕ) (m : Distribution) → Fits n m → IsDistribution m
 distribution n m h = record {
@@ -34,11 +33,10 @@ distribution n m h = record {
 
 posed : (q : Query) → IsFit q → ((s : ℕ) → is_goal q s ≡ true → is_dead q s ≡ false) → IsQuery q
 posed q h apart =
-    let at : (s : ℕ) → s < states q → AreFit (states q) (choices_of q.game s) =
-    λ s l. AllByRecursion-at (AreFit (states q)) q.game s [] l h.5 in
+    let at : (s : ℕ) → s < states q → AreFit (states q) (choices_of q.game s) = λ s l. h.5 s [] l in
     let choice : (s c : ℕ) → s < states q → c < length (choices_of q.game s)
     → Fits (states q) (get_or (choices_of q.game s) c no_distribution) =
-    λ s c l k. AllByRecursion-at (Fits (states q)) (choices_of q.game s) c no_distribution k (at s l).2 in
+    λ s c l k. (at s l).2 c no_distribution k in
     record {
       game = record {
         some = h.0;
@@ -46,7 +44,7 @@ posed q h apart =
         chosen = λ s l. (at s l).0;
         bounded = λ s l. (at s l).1;
         distribution = λ s c l k. distribution (states q) _ (choice s c l k);
-        inside = λ s c l k i d j. AllByRecursion-at (λ (e : Edge). e.to < states q) _ i d j (choice s c l k).4;
+        inside = λ s c l k. (choice s c l k).4;
       };
       sides = h.2;
       goals = h.3;
@@ -54,11 +52,11 @@ posed q h apart =
       apart = apart;
     }
 
-none-dead : (deads : List Bool) → AllByRecursion (λ dead. dead ≡ false) deads → (s : ℕ)
+none-dead : (deads : List Bool) → All (λ dead. dead ≡ false) deads → (s : ℕ)
     → slice_index_or deads s false ≡ false
 none-dead [] h s = refl
-none-dead (dead ∷ deads) h zero = h.0
-none-dead (dead ∷ deads) h (suc s) = none-dead deads h.1 s
+none-dead (dead ∷ deads) h zero = All-head (λ dead. dead ≡ false) dead deads h
+none-dead (dead ∷ deads) h (suc s) = none-dead deads (All-tail (λ dead. dead ≡ false) dead deads h) s
 
 pub is_coin : IsQuery coin_loop
 is_coin = posed coin_loop (search rules) (λ s goal. none-dead coin_loop.deads (search rules) s)

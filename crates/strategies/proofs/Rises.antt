@@ -1,6 +1,6 @@
 -- What is reached rises with the horizon, and is at most 1.
 use Rattle.std.proofs.Common.{◌≡◌, ℕ, zero, suc, ◌+◌, ◌*◌, ◌/◌, ◌^◌, ◌<◌, ◌≤◌, Bool, true, false, List, [], ◌∷◌}
-use Rattle.std.proofs.Common.{arith}
+use Rattle.std.proofs.Common.{get_or, arith}
 use Rattle.std.specs.List.{range_with_len}
 use Rattle.std.specs.Bool.{if◌then◌else◌}
 use Rattle.std.proofs.Math.Nat.{pow-suc}
@@ -9,7 +9,6 @@ use Rattle.game_model.specs.declared.game.Side.TheVariants.{Max, Min}
 use Rattle.game_model.specs.Game.{Distribution, choice_of}
 use Rattle.game_model.specs.Query.{Query, IsQuery, states, is_goal, is_dead, side_at}
 use Rattle.game_model.specs.Values.{weighted_sum, denominator}
-use Rattle.game_model.proofs.Each.{AllByRecursion-always}
 use Rattle.game_model.proofs.Best.{weighted_sum-le}
 use Rattle.game_model.proofs.Rises.{scaled-le, pow-one}
 use Rattle.strategies.specs.Strategies.{Turn, Strategy, IsStrategyOf, of_side, reach}
@@ -40,7 +39,7 @@ module _ (q : Query) (faces : ℕ) (greatest least : Strategy) where
       (weighted_sum (reach q faces greatest least (suc k) (turn ∷ past)) m.edges)
       (weighted_sum-le (reach q faces greatest least k (turn ∷ past))
       (reach q faces greatest least (suc k) (turn ∷ past)) d 1 m.edges
-      (AllByRecursion-always _ (λ e. rises k (turn ∷ past) e.to) m.edges))))
+      (λ i e l. rises k (turn ∷ past) (get_or m.edges i e).to))))
 
   pub reach-rises : (k s : ℕ)
       → reach q faces greatest least k [] s * (faces * denominator q.game) ≤ reach q faces greatest least (k + 1) [] s

@@ -1,22 +1,21 @@
 -- Where plays come to an end brackets close.
 use Rattle.std.proofs.Common.{◌≡◌, ℕ, zero, suc, ◌+◌, ◌-◌, ◌*◌, ◌/◌, ◌^◌, ◌<◌, ◌≤◌, Bool, true, false, List, [], ◌∷◌}
-use Rattle.std.proofs.Common.{length, arith, refl, sym, ◌∙◌, ap, subst, inl, inr}
+use Rattle.std.proofs.Common.{get_or, arith, refl, sym, ◌∙◌, ap, subst, inl, inr}
 use Rattle.std.specs.Prelude.{slice_index_or, ◌||◌}
 use Rattle.std.specs.Bool.{if◌then◌else◌}
-use Rattle.std.specs.List.{AllByRecursion}
+use Rattle.std.specs.List.{All}
 use Rattle.std.proofs.Math.Nat.{mul-le-mul_left, le_of_mul-le-mul_left, pow-suc, pow-zero, one-le-pow}
 use Rattle.std.proofs.lemmas.Nat.{pow-add}
-use Rattle.std.proofs.lemmas.List.Elements.{recursion_from_All, All-from_get_or}
+use Rattle.std.proofs.lemmas.List.Elements.{All-head, All-tail}
 use Rattle.std.proofs.lemmas.List.Sums.{sum_by-cons}
 use Rattle.game_model.specs.declared.game.Edge.{Edge}
 use Rattle.game_model.specs.declared.game.Side.TheVariants.{Max}
-use Rattle.game_model.specs.Game.{Distribution, choices_of, choice_of, no_distribution}
+use Rattle.game_model.specs.Game.{Distribution, choices_of}
 use Rattle.game_model.specs.Limits.{unit}
 use Rattle.game_model.specs.Query.{Query, IsQuery, states, is_goal, is_dead, side_at}
 use Rattle.game_model.specs.Values.{optimum, weighted_sum, denominator, numerator, numerator_of}
 use Rattle.game_model.specs.Dual.{open_numerator, IsZeroSet}
-use Rattle.game_model.proofs.Each.{AllByRecursion-weaker}
-use Rattle.game_model.proofs.Choices.{IsChoiceOf, IsChoiceOf-choice_of, denominator-pos}
+use Rattle.game_model.proofs.Choices.{IsChoiceOf, AreChoicesOf-choices_of, denominator-pos}
 use Rattle.game_model.proofs.Best.{optimum-le, optimum-plus, optimum-each, optimum-most}
 use Rattle.game_model.proofs.Marked.{marked-goal}
 use Rattle.std.proofs.lemmas.Bool.{cases_Bool}
@@ -25,14 +24,8 @@ use Rattle.strategies.specs.Stopping.{is_over, undecided, IsStopping, AreClose, 
 use Rattle.strategies.proofs.Turns.{worth-le}
 use Rattle.strategies.proofs.Ways.{worth-constant}
 
--- what holds of each choice of a state
-each-choice : (q : Query) (s : ℕ) (P : Distribution → Type 0)
-    → ((c : ℕ) → c < length (choices_of q.game s) → P (choice_of q.game s c)) → AllByRecursion P (choices_of q.game s)
-each-choice q s P h =
-    recursion_from_All P (choices_of q.game s) (All-from_get_or P (choices_of q.game s) no_distribution h)
-
 -- a sum over a table that is at most the sum of two others
-sums-le : (u v w : ℕ → ℕ) (edges : List Edge) → AllByRecursion (λ e. u e.to ≤ v e.to + w e.to) edges
+sums-le : (u v w : ℕ → ℕ) (edges : List Edge) → All (λ e. u e.to ≤ v e.to + w e.to) edges
     → weighted_sum u edges ≤ weighted_sum v edges + weighted_sum w edges
 sums-le u v w [] h = omega arith
 sums-le u v w (e ∷ es) h =
@@ -41,7 +34,11 @@ sums-le u v w (e ∷ es) h =
       sum_by-cons (λ (d : Edge). d.weight * v d.to) e es,
       sum_by-cons (λ (d : Edge). d.weight * w d.to) e es,
     )
-    (omega (arith, sums-le u v w es h.1, mul-le-mul_left e.weight h.0))
+    (omega (
+      arith,
+      sums-le u v w es (All-tail (λ (d : Edge). u d.to ≤ v d.to + w d.to) e es h),
+      mul-le-mul_left e.weight (All-head (λ (d : Edge). u d.to ≤ v d.to + w d.to) e es h),
+    ))
 
 -- what a choice is worth over a table that is at most the sum of two others
 pub worth-sum : (q : Query) (u v w : ℕ → ℕ) (m : Distribution) → IsChoiceOf q.game m
@@ -50,8 +47,7 @@ worth-sum q u v w m fits h =
     omega (
       arith,
       mul-le-mul_left (denominator q.game / m.total)
-          (sums-le u v w m.edges
-          (AllByRecursion-weaker (λ (e : Edge). e.to < states q) _ (λ e inside. h e.to inside) m.edges fits.inside)),
+          (sums-le u v w m.edges (λ i d l. h (get_or m.edges i d).to (fits.inside i d l))),
     )
 
 over-le : (over : Bool) (a b x y : ℕ) → a * x ≤ b * y → a * (if over then 0 else x) ≤ b * (if over then 0 else y)
@@ -78,8 +74,8 @@ closing top up low r o n u e x c positive near above gap few =
     le_of_mul-le-mul_left whole positive
 
 module _ (q : Query) (posed : IsQuery q) (lost : List Bool) (zero_set : IsZeroSet q lost) where
-  fits : (s c : ℕ) → s < states q → c < length (choices_of q.game s) → IsChoiceOf q.game (choice_of q.game s c)
-  fits s c inside within = IsChoiceOf-choice_of q.game s c posed.game inside within
+  fits : (s : ℕ) → All (IsChoiceOf q.game) (choices_of q.game s)
+  fits = (AreChoicesOf-choices_of q.game posed.game).each
 
   -- a dead state that is no goal has only values 0, so it is lost
   dead-none : (k s : ℕ) → is_goal q s ≡ false → is_dead q s ≡ true → numerator q k s ≡ 0
@@ -115,15 +111,15 @@ module _ (q : Query) (posed : IsQuery q) (lost : List Bool) (zero_set : IsZeroSe
   gap zero s inside = gap-opening (is_goal q s) (slice_index_or lost s false) (marked-goal q lost zero_set s)
   gap (suc k) s inside =
       let most : ℕ = optimum Max (worth q (undecided q lost k)) (choices_of q.game s) in
-      let each : AllByRecursion (λ m. 1 * worth q (open_numerator q lost k) m ≤ 1 * (worth q (numerator q k) m + most))
+      let each : All (λ m. 1 * worth q (open_numerator q lost k) m ≤ 1 * (worth q (numerator q k) m + most))
       (choices_of q.game s) =
-      each-choice q s _ (λ c within.
+      λ c d l.
       omega (
         arith,
-        worth-sum q (open_numerator q lost k) (numerator q k) (undecided q lost k) (choice_of q.game s c)
-            (fits s c inside within) (gap k),
-        optimum-each (worth q (undecided q lost k)) (choices_of q.game s) c no_distribution within,
-      )) in
+        worth-sum q (open_numerator q lost k) (numerator q k) (undecided q lost k)
+            (get_or (choices_of q.game s) c d) (fits s c d l) (gap k),
+        optimum-each (worth q (undecided q lost k)) (choices_of q.game s) c d l,
+      ) in
       let one : 1 * optimum (side_at q s) (worth q (open_numerator q lost k)) (choices_of q.game s)
       ≤ 1 * optimum (side_at q s) (λ m. worth q (numerator q k) m + most) (choices_of q.game s) =
       optimum-le (side_at q s) (worth q (open_numerator q lost k)) (λ m. worth q (numerator q k) m + most) 1 1
@@ -154,11 +150,11 @@ module _ (q : Query) (posed : IsQuery q) (lost : List Bool) (zero_set : IsZeroSe
       ]
   later n u h (suc k) zero s is inside = absurd (omega (arith, is))
   later n u h (suc k) (suc j) s is inside =
-      let each : AllByRecursion (λ m. 1 * worth q (undecided q lost j) m ≤ u * worth q (undecided q lost k) m)
+      let each : All (λ m. 1 * worth q (undecided q lost j) m ≤ u * worth q (undecided q lost k) m)
       (choices_of q.game s) =
-      each-choice q s _ (λ c within.
-      worth-le q (undecided q lost j) (undecided q lost k) 1 u (choice_of q.game s c) (fits s c inside within)
-      (λ t there. omega (arith, later n u h k j t (omega (arith, is)) there))) in
+      λ c d l.
+      worth-le q (undecided q lost j) (undecided q lost k) 1 u (get_or (choices_of q.game s) c d) (fits s c d l)
+      (λ t there. omega (arith, later n u h k j t (omega (arith, is)) there)) in
       let all : 1 * (if is_over q lost s then 0 else optimum Max (worth q (undecided q lost j)) (choices_of q.game s))
       ≤ u * (if is_over q lost s then 0 else optimum Max (worth q (undecided q lost k)) (choices_of q.game s)) =
       over-le (is_over q lost s) 1 u _ _
@@ -184,12 +180,12 @@ module _ (q : Query) (posed : IsQuery q) (lost : List Bool) (zero_set : IsZeroSe
   unfolding undecided
   one-most s inside = over-most (is_over q lost s) _ (denominator q.game)
       (optimum-most Max (worth q (undecided q lost zero)) (denominator q.game) (choices_of q.game s)
-      (each-choice q s _ (λ c within.
-      let m : Distribution = choice_of q.game s c in
-      let below : 1 * worth q (undecided q lost zero) m ≤ 1 * worth q (λ t. 1) m =
-      worth-le q (undecided q lost zero) (λ t. 1) 1 1 m (fits s c inside within)
+      (λ c d l.
+      let below : 1 * worth q (undecided q lost zero) (get_or (choices_of q.game s) c d)
+      ≤ 1 * worth q (λ t. 1) (get_or (choices_of q.game s) c d) =
+      worth-le q (undecided q lost zero) (λ t. 1) 1 1 (get_or (choices_of q.game s) c d) (fits s c d l)
       (λ t there. omega (arith, over-most (is_over q lost t) 1 1 (omega arith))) in
-      omega (arith, below, worth-constant q 1 m (fits s c inside within)))))
+      omega (arith, below, worth-constant q 1 (get_or (choices_of q.game s) c d) (fits s c d l))))
 
   all-most : (d s : ℕ) → s < states q → undecided q lost d s ≤ denominator q.game ^ d
   all-most d s inside = stretches 1 (denominator q.game) one-most d d s (omega arith) inside

@@ -1,18 +1,16 @@
 -- What one turn of a play adds.
 use Rattle.std.proofs.Common.{◌≡◌, ℕ, zero, suc, ◌*◌, ◌/◌, ◌^◌, ◌<◌, ◌≤◌, Bool, true, false, List, [], ◌∷◌, length}
-use Rattle.std.proofs.Common.{sum_by, arith, subst}
-use Rattle.std.specs.List.{AllByRecursion, range_with_len}
+use Rattle.std.proofs.Common.{get_or, sum_by, arith, subst}
+use Rattle.std.specs.List.{All, range_with_len}
 use Rattle.std.specs.Bool.{if◌then◌else◌}
 use Rattle.std.proofs.Math.Nat.{pow-suc, pow-zero}
 use Rattle.std.proofs.lemmas.List.Sums.{sum_by-cons}
 use Rattle.std.proofs.lemmas.List.FromFn.{length-range_with_len}
-use Rattle.game_model.specs.declared.game.Edge.{Edge}
 use Rattle.game_model.specs.declared.game.Side.{Side}
 use Rattle.game_model.specs.declared.game.Side.TheVariants.{Max, Min}
 use Rattle.game_model.specs.Game.{Distribution, choices_of}
 use Rattle.game_model.specs.Query.{Query, states, side_at}
 use Rattle.game_model.specs.Values.{weighted_sum, denominator}
-use Rattle.game_model.proofs.Each.{AllByRecursion-weaker}
 use Rattle.game_model.proofs.Choices.{IsChoiceOf}
 use Rattle.game_model.proofs.Best.{weighted_sum-le}
 use Rattle.game_model.proofs.Rises.{scaled-le}
@@ -53,12 +51,11 @@ faces-most f most faces h = subst (λ n. sum_by f (range_with_len 0 faces) ≤ n
 
 -- a choice over tables that are in order at each of its successors
 pub worth-among : (q : Query) (Among : ℕ → Type 0) (v w : ℕ → ℕ) (a b : ℕ) (m : Distribution)
-    → AllByRecursion (λ e. Among e.to) m.edges → ((t : ℕ) → Among t → a * v t ≤ b * w t)
+    → All (λ e. Among e.to) m.edges → ((t : ℕ) → Among t → a * v t ≤ b * w t)
     → a * worth q v m ≤ b * worth q w m
 worth-among q Among v w a b m fits h =
     scaled-le a b (denominator q.game / m.total) (weighted_sum v m.edges) (weighted_sum w m.edges)
-    (weighted_sum-le v w a b m.edges
-    (AllByRecursion-weaker (λ (e : Edge). Among e.to) _ (λ e among. h e.to among) m.edges fits))
+    (weighted_sum-le v w a b m.edges (λ i d l. h (get_or m.edges i d).to (fits i d l)))
 
 -- a choice is worth more where its successors are
 pub worth-le : (q : Query) (v w : ℕ → ℕ) (a b : ℕ) (m : Distribution) → IsChoiceOf q.game m

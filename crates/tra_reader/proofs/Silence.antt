@@ -3,6 +3,7 @@ use Rattle.std.proofs.Common.{◌≡◌, ◌∙◌, ◌<◌, ◌+◌, inl, inr, 
 use Rattle.std.proofs.Common.{length, take, get_or, option_map, slice_get, refl, ap, ap₂, sym}
 use Rattle.std.proofs.lemmas.Bool.{cases_Bool}
 use Rattle.std.proofs.lemmas.List.{take_more}
+use Rattle.std.proofs.lemmas.List.Elements.{All-head, All-tail, All-push}
 use Rattle.std.specs.List.{filter}
 use Rattle.std.specs.Option.{option_map_or}
 use Rattle.std.specs.Str.{bytes_eq}
@@ -11,18 +12,19 @@ use Rattle.transition_lines.specs.Lines.{Row}
 use Rattle.transition_lines.specs.Text.{transitions}
 use Rattle.transition_lines.specs.Order.{has}
 use Rattle.transition_lines.specs.Answers.{row_place, clashes_at}
-use Rattle.tra_reader.specs.inside.Noted.{AreSilent, silent_rows}
+use Rattle.tra_reader.specs.inside.Noted.{IsSilent, AreSilent, silent_rows}
 
 abbrev pub with_action : Transition → List ℕ → Row
 with_action transition action = record { transition = transition; action = action }
 
 pub silent_is : (rows : List Row) → AreSilent rows → rows ≡ silent_rows (transitions rows)
 silent_is [] are = refl
-silent_is (row ∷ rows) are = ap₂ (λ (r : Row) rs. r ∷ rs) (ap (with_action row.transition) are.0) (silent_is rows are.1)
+silent_is (row ∷ rows) are =
+    ap₂ (λ (r : Row) rs. r ∷ rs) (ap (with_action row.transition) (All-head IsSilent row rows are))
+    (silent_is rows (All-tail IsSilent row rows are))
 
 pub silent_push : (rows : List Row) (row : Row) → AreSilent rows → row.action ≡ [] → AreSilent (rows ++ row ∷ [])
-silent_push [] row are none = (none, tt)
-silent_push (r ∷ rows) row are none = (are.0, silent_push rows row are.1 none)
+silent_push rows row are none = All-push IsSilent rows row are none
 
 same : (f a : List ℕ) → f ≡ [] → a ≡ [] → not (bytes_eq f a) ≡ false
 same f a e d = ap₂ (λ x y. not (bytes_eq x y)) e d
@@ -36,9 +38,9 @@ agree : (rows : List Row) (q : ℕ) (a : List ℕ) → AreSilent rows → a ≡ 
 agree [] q a are none = refl
 agree (b ∷ rows) q a are none = elim (cases_Bool (row_place b == q)) [
   | inl e ↦ ap (λ v. differs a (cond v (b ∷ filter (has row_place q) rows) (filter (has row_place q) rows))) e
-      ∙ same b.action a are.0 none
+      ∙ same b.action a (All-head IsSilent b rows are) none
   | inr e ↦ ap (λ v. differs a (cond v (b ∷ filter (has row_place q) rows) (filter (has row_place q) rows))) e
-      ∙ agree rows q a are.1 none
+      ∙ agree rows q a (All-tail IsSilent b rows are) none
 ]
 
 -- a silent row behind silent ones clashes with none

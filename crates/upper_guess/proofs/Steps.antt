@@ -1,12 +1,10 @@
 -- Up steps: they keep the order of tables, and stay within the unit.
 use Rattle.std.proofs.Common.{◌≡◌, ℕ, ◌*◌, ◌<◌, ◌≤◌, List, length, arith, subst}
-use Rattle.game_model.specs.declared.game.Edge.{Edge}
 use Rattle.game_model.specs.Game.{Distribution, choices_of}
 use Rattle.game_model.specs.Query.{Query, IsQuery, states}
 use Rattle.game_model.specs.Values.{weighted_sum}
 use Rattle.game_model.specs.Limits.{unit}
 use Rattle.game_model.specs.Rounded.{up_value, up_step}
-use Rattle.game_model.proofs.Each.{AllByRecursion-weaker}
 use Rattle.game_model.proofs.Choices.{IsChoiceOf, AreChoicesOf, AreChoicesOf-choices_of}
 use Rattle.game_model.proofs.Best.{weighted_sum-most}
 use Rattle.game_model.proofs.Rises.{bellman-most}
@@ -29,13 +27,12 @@ up_value-units : (game : List (List Distribution)) (v : ℕ → ℕ) (m : Distri
 up_value-units game v m fits units =
     ceil-most (weighted_sum v m.edges) m.total unit fits.positive
     (subst (λ w. weighted_sum v m.edges ≤ w * unit) fits.sums
-    (weighted_sum-most v unit m.edges
-    (AllByRecursion-weaker (λ (e : Edge). e.to < length game) _ (λ e inside. units e.to inside) m.edges fits.inside)))
+    (weighted_sum-most v unit m.edges (λ i d l. units _ (fits.inside i d l))))
 
 -- and so has each state
 pub up_step-units : (q : Query) (v : ℕ → ℕ) → IsQuery q → ((t : ℕ) → t < states q → v t ≤ unit) → (s : ℕ)
     → up_step q v s ≤ unit
 up_step-units q v posed units s =
     let chosen : AreChoicesOf q.game (choices_of q.game) = AreChoicesOf-choices_of q.game posed.game in
-    bellman-most q (choices_of q.game) unit unit (up_value v) s (omega arith) (AllByRecursion-weaker (IsChoiceOf q.game)
-    _ (λ m fits. up_value-units q.game v m fits units) (choices_of q.game s) (chosen.each s))
+    bellman-most q (choices_of q.game) unit unit (up_value v) s (omega arith)
+    (λ i d l. up_value-units q.game v _ (chosen.each s i d l) units)

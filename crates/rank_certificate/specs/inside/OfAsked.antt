@@ -4,7 +4,8 @@ use Rattle.game_model.specs.Query.{states}
 use Rattle.predecessors.specs.declared.lists.Move.{Move}
 use Rattle.rank_certificate.specs.Ranking.{NeedsRank}
 use Rattle.rank_certificate.specs.Carrying.{Carries, IsFirstCarrying}
-use Rattle.rank_certificate.specs.inside.RankLayers.{AreRankLayers, IsApart, Looks, Follows, AreFollowed, IsGrown}
+use Rattle.rank_certificate.specs.inside.RankLayers.{AreRankLayers, IsApart, Looks, Follows, AreFollowed}
+use Rattle.rank_certificate.specs.inside.RankLayers.{IsFinishedGrowth}
 use Rattle.rank_certificate.specs.declared.asked.Asked.{Asked}
 use Rattle.rank_certificate.specs.declared.layers.RankLayers.{RankLayers}
 
@@ -57,5 +58,5 @@ AreFollowedIn a level old from upto g =
     AreFollowed a.question.now (value_in a) (only_in a) level old from upto g.ranks.items
 
 -- All layers are found: no layer has a state without a rank.
-abbrev pub IsGrownIn : Asked → RankLayers → Type 0
-IsGrownIn a g = IsGrown a.question.now (value_in a) (only_in a) g.ranks.items g.choices.items
+abbrev pub IsFinishedGrowthIn : Asked → RankLayers → Type 0
+IsFinishedGrowthIn a g = IsFinishedGrowth a.question.now (value_in a) (only_in a) g.ranks.items g.choices.items

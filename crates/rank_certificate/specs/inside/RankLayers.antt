@@ -98,7 +98,7 @@ AreFollowed q value only level old from upto ranks =
     → IsApartBy q value only level ranks s c
 
 -- All layers are found: no layer has a state without a rank.
-pub record IsGrown (q : Query) (value : ℕ → ℕ) (only : Option (List (Option ℕ)))
+pub record IsFinishedGrowth (q : Query) (value : ℕ → ℕ) (only : Option (List (Option ℕ)))
     (ranks choices : List (Option ℕ)) : Type 0 where
   pub level : ℕ
   pub begin : ℕ

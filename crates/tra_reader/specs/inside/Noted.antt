@@ -1,6 +1,6 @@
 -- These definitions say how the first actions of choices are noted.
 use Rattle.std.specs.Prelude.{◌≡◌, ℕ, Bool, true, false, List, [], map, Option, option_map, nat_eq}
-use Rattle.std.specs.List.{slice_range, AllByRecursion}
+use Rattle.std.specs.List.{slice_range, All}
 use Rattle.std.specs.HashMap.{get}
 use Rattle.transition_lines.specs.declared.line.Transition.{Transition}
 use Rattle.tra_reader.specs.declared.actions.FirstActions.{FirstActions}
@@ -17,9 +17,13 @@ noted actions place = option_map (λ span. slice_range actions.bytes.items span.
 abbrev pub Notes : FirstActions → List Row → Type 0
 Notes actions rows = (place : ℕ) → noted actions place ≡ action_at rows place
 
+-- The row has no action.
+abbrev pub IsSilent : Row → Type 0
+IsSilent row = row.action ≡ []
+
 -- No row has an action.
 abbrev pub AreSilent : List Row → Type 0
-AreSilent rows = AllByRecursion (λ row. row.action ≡ []) rows
+AreSilent rows = All IsSilent rows
 
 -- These are the rows of the transitions, each without an action.
 abbrev pub silent_rows : List Transition → List Row

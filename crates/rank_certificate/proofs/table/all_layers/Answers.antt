@@ -2,7 +2,7 @@ use Rattle.std.proofs.Common.{◌≡◌, ◌+◌, length, arith, subst, sym}
 use Rattle.rank_certificate.specs.inside.OfAsked.{value_in, only_in}
 use Rattle.game_model.proofs.Longer.{longer-length}
 use Rattle.rank_certificate.specs.inside.RankLayers.{AreRankLayers}
-use Rattle.rank_certificate.proofs.Grown.{Opened-layers, RankLayers-step}
+use Rattle.rank_certificate.proofs.NextLayer.{Opened-layers, RankLayers-step}
 use Rattle.rank_certificate.proofs.table.all_layers.Goals as goal
 
 pub loop-begin-init : goal.loop-begin-init

@@ -1,7 +1,7 @@
 use Rattle.std.proofs.Common.{◌≡◌, ℕ, ◌<◌, length, Some, None, arith, ◌∙◌, List}
 use Rattle.std.specs.Prelude.{slice_index, slice_index_or}
 use Rattle.game_model.specs.Query.{states}
-use Rattle.rank_certificate.proofs.Standing.{left-unranked, grown-plan, plan-Ranked}
+use Rattle.rank_certificate.proofs.Standing.{left-unranked, finished-plan, plan-Ranked}
 use Rattle.rank_certificate.proofs.table.rank_standing.Goals as goal
 
 pub returns-in_default-clause-found : goal.returns-in_default-clause-found
@@ -22,7 +22,7 @@ returns-clause-found c =
     let found : (length numbers ≡ length g.ranks.items)
     × ((s : ℕ) → s < length g.ranks.items → slice_index_or g.ranks.items s None ≡ Some (slice_index numbers s)) =
     rw c.deref.ensures.value at (rw c.in-Some.is at c.in_ok-ranks.ensures) in
-    grown-plan q c.args.values.now g.ranks.items g.choices.items c.invariant.ensures c.in_ok-layers.ensures numbers
+    finished-plan q c.args.values.now g.ranks.items g.choices.items c.invariant.ensures c.in_ok-layers.ensures numbers
     (found.0 ∙ many) (λ s inside. found.1 s (omega (arith, inside, many)))
 
 pub returns-clause-ranked : goal.returns-clause-ranked

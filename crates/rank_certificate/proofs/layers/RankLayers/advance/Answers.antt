@@ -1,5 +1,5 @@
 use Rattle.rank_certificate.specs.inside.OfAsked.{value_in, only_in}
-use Rattle.rank_certificate.proofs.Grown.{followed-apart}
+use Rattle.rank_certificate.proofs.NextLayer.{followed-apart}
 use Rattle.rank_certificate.proofs.layers.RankLayers.advance.Goals as goal
 
 pub returns-then-layer-saturating_sub-clause-layers : goal.returns-then-layer-saturating_sub-clause-layers
