@@ -7,7 +7,7 @@ use game_outside::OutOfMemory;
 use std::alloc::Global;
 
 /// A draft has the nodes that have ended, the choices so far of the next node, and the sums of the next choice so far:
-/// of its weights, of the weights that leave, and of these times their values.
+/// of its weights, of the weights that leave, and of these times their values, less what the choice costs.
 ///
 /// The edges of a choice come first, and then its end. The choices of a node come first, and then its end. An edge back
 /// to its own node is left out, and the rest is scaled up.
@@ -85,6 +85,15 @@ impl Draft {
         self.total += weight;
         self.left += weight;
         self.given += weight * value;
+    }
+
+    /// Adds a cost: each time that the present choice is taken, it gives this many units less. The total is the sum of
+    /// all its weights, those of edges to its own node among them.
+    pub fn add_cost(&mut self, total: f64, cost: f64)
+        ensures nodes { ended_nodes self.new ≡ ended_nodes self.old }
+        ensures choices { ended_choices self.new ≡ ended_choices self.old }
+    {
+        self.given -= total * cost;
     }
 
     /// Ends the present choice: its weights become shares. The caller knows the choice by its mark, such as its place

@@ -1,6 +1,6 @@
 //! This module finds the bounds of a question, component by component.
 
-ghost use Rattle.std.specs.Prelude.{◌≡◌, ◌+◌, ◌<◌, IfOk, length};
+ghost use Rattle.std.specs.Prelude.{◌≡◌, ◌+◌, ◌<◌, IfOk, length, vec_len};
 ghost use Rattle.game_model.specs.Query.{states};
 ghost use Rattle.predecessors.specs.Lists.{ArePredecessors};
 ghost use Rattle.plan_solver.specs.Tables.{IsTableOrNone};
@@ -47,7 +47,7 @@ pub fn find_bounds(
             upper: Vec::new(alloc),
         });
     }
-    let state_order = StateOrder::of_question(alloc, question, predecessors)?;
+    let state_order = StateOrder::of_question(alloc, question, predecessors, None)?;
     let components = open_components(alloc, question, sure, zero, &state_order.order)?;
     let input = Input {
         question,
@@ -56,25 +56,58 @@ pub fn find_bounds(
         components: &components,
         sure,
         zero,
+        costs: None,
     };
-    let states = question.game().states() as usize;
+    let tables = find_tables(alloc, &input, &input, hints)?;
+    Ok(Candidates {
+        lower: tables.lower.into_entries(),
+        upper: tables.upper.into_entries(),
+    })
+}
+
+/// Both tables come with the choices of the maximiser that the lower one goes by, and with the replies of the minimiser
+/// that the upper one goes by.
+#[derive(Drop)]
+pub(crate) struct Tables {
+    pub lower: UnitTable,
+    pub upper: UnitTable,
+    pub choices: Vec<u32>,
+    pub replies: Vec<u32>,
+}
+
+/// Finds the lower table and then the upper one, whose costs may be others.
+pub(crate) fn find_tables(
+    alloc: Global,
+    lower_input: &Input<'_, '_>,
+    upper_input: &Input<'_, '_>,
+    hints: Option<&[f64]>,
+) -> Result<Tables, OutOfMemory>
+    requires { upper_input.now.question.now ≡ lower_input.now.question.now }
+    ensures lower { IfOk result (λ t. length t.lower ≡ states lower_input.now.question.now) }
+    ensures upper { IfOk result (λ t. length t.upper ≡ states lower_input.now.question.now) }
+    ensures choices { IfOk result (λ t. vec_len t.choices ≡ states lower_input.now.question.now) }
+    ensures replies { IfOk result (λ t. vec_len t.replies ≡ states lower_input.now.question.now) }
+{
+    let states = lower_input.question.game().states() as usize;
     let mut replies = vec![in alloc; 0u32; states]?;
     let mut node_of = vec![in alloc; NONE; states]?;
-    let lower = lower_bounds(alloc, &input, &mut replies, &mut node_of)?;
+    let lower = lower_bounds(alloc, lower_input, &mut replies, &mut node_of)?;
     let values = first_values(lower.values, hints);
     let start = Start {
         values: &values,
         planned: &lower.planned,
     };
-    let upper = upper_table(alloc, &input, &start, &mut replies, &mut node_of)?;
-    Ok(Candidates {
-        lower: lower.table.into_entries(),
-        upper: upper.into_entries(),
+    let upper = upper_table(alloc, upper_input, &start, &mut replies, &mut node_of)?;
+    Ok(Tables {
+        lower: lower.table,
+        upper,
+        choices: lower.planned,
+        replies,
     })
 }
 
 /// Returns whether some value is neither 1 nor 0.
-fn has_open(question: &Question, sure: &Marks, zero: &Marks) -> bool
+pub(crate) fn has_open(question: &Question, sure: &Marks, zero: &Marks) -> bool
     requires sure { length sure.now ≡ states question.now }
     requires zero { length zero.now ≡ states question.now }
 {
@@ -119,6 +152,7 @@ fn lower_bounds(
     requires { length replies.old ≡ states input.now.question.now }
     ensures replies { length replies.new ≡ length replies.old }
     ensures table { IfOk result (λ l. length l.table ≡ states input.now.question.now) }
+    ensures planned { IfOk result (λ l. vec_len l.planned ≡ states input.now.question.now) }
 {
     let states = input.question.game().states() as usize;
     let mut table = known_table(alloc, input.question, input.sure)?;
@@ -154,7 +188,8 @@ fn upper_table(
     node_of: &mut [u32],
 ) -> Result<UnitTable, OutOfMemory>
     requires replies { length replies.old ≡ states input.now.question.now }
-    ensures { IfOk result (λ t. length t ≡ states input.now.question.now) }
+    ensures table { IfOk result (λ t. length t ≡ states input.now.question.now) }
+    ensures replies { length replies.new ≡ length replies.old }
 {
     let mut table = known_table(alloc, input.question, input.sure)?;
     let mut shown = shown_values(alloc, &table)?;

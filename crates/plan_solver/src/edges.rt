@@ -29,17 +29,21 @@ pub(crate) fn draft_of(
     Draft::new(alloc, members.len(), choices as usize, edges as usize)
 }
 
-/// Adds the edges of a choice. An edge leads to the node of a state, or out of the local game with the entry of a state
-/// that has none.
+/// Adds the edges of a choice, and its cost in units. An edge leads to the node of a state, or out of the local game
+/// with the entry of a state that has none.
 pub(crate) fn add_edges(
     row: &Row<'_>,
     choice: u32,
+    cost: u64,
     nodes: &[u32],
     entries: &[u64],
     draft: &mut Draft,
 ) -> Result<(), OutOfMemory>
     requires { choice < length row.now }
 {
+    if cost > 0 {
+        draft.add_cost(float_of(row.total(choice)), nearest_u64_to_f64(cost));
+    }
     if is_narrow(row.total(choice)) {
         let weights = row.narrow_weights(choice);
         for (to, weight) in row.successors(choice).iter().zip(weights) {

@@ -106,8 +106,8 @@ impl EndComponents {
 }
 
 /// Finds the end components of the open states when the minimiser plays its replies: the traps of the question in which
-/// all others are dead. Mostly no choice can stay for ever, and nothing is searched. The only error is that memory ran
-/// out.
+/// all others are dead. Mostly no choice can stay for ever, and nothing is searched. If choices have costs, it is not
+/// free to stay, and nothing is searched either. The only error is that memory ran out.
 pub(crate) fn find_end_components(
     alloc: Global,
     input: &Input<'_, '_>,
@@ -115,7 +115,7 @@ pub(crate) fn find_end_components(
 ) -> Result<EndComponents, OutOfMemory>
     requires { length replies.now ≡ states input.now.question.now }
 {
-    if !has_free_choice(input) {
+    if input.costs.is_some() || !has_free_choice(input) {
         return Ok(EndComponents::alone(alloc));
     }
     let posed = open_question(alloc, input)?;

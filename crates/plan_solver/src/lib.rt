@@ -6,12 +6,16 @@
 //! are fixed, and each end component that is left to the maximiser is one node (de Alfaro 1997). The replies are then
 //! improved over what was found.
 //!
+//! [`find_costly_bounds`] does the same for a question whose choices have costs: the value is the unit at a goal, less
+//! what the choices on the way cost. Nobody stays for ever free of charge there, so no end component is looked for.
+//!
 //! Nothing is promised of a table but that it has an entry for each state or none, and that each entry is at most the
 //! unit. Nothing else needs to be promised. Every function here is safe and ends, and there is no random number and no
 //! clock, so the same question gives the same tables on every machine.
 #![tactic(auto)]
 
 mod bounds;
+mod costs;
 mod edges;
 mod end_components;
 mod input;
@@ -22,3 +26,4 @@ mod upper;
 mod weights;
 
 pub use bounds::find_bounds;
+pub use costs::{CostlyTables, Costs, find_costly_bounds};

@@ -7,12 +7,12 @@ use crate::edges::{add_edges, draft_of};
 use crate::input::Input;
 use crate::state_order::NONE;
 use float_games::{Bound, Draft, FloatGame};
-use game_model::{Question, Side};
+use game_model::Side;
 use game_outside::OutOfMemory;
 use local_values::solve_nearly;
 use std::alloc::Global;
 use std::num::nearest_u64_to_f64;
-use table_rounding::{Input as RoundingInput, UnitTable, round_component, single_entry};
+use table_rounding::{Input as RoundingInput, UnitTable, cost_of, round_component, single_entry};
 
 /// The local game of a component comes with an initial policy.
 #[derive(Drop)]
@@ -44,7 +44,7 @@ pub(crate) fn lower_component(
     let members = input.components.members(component);
     if members.len() == 1 {
         let state = members[0];
-        let entry = single_entry(input.question, lower, Bound::Lower, state);
+        let entry = single_entry(input.question, lower, Bound::Lower, state, input.costs);
         lower.set(state, entry.value);
         note(planned, state, entry.choice);
         note(replies, state, entry.choice);
@@ -76,6 +76,7 @@ pub(crate) fn lower_component(
         game: &game,
         nodes: &nodes,
         bound: Bound::Lower,
+        costs: input.costs,
     };
     let _is_held = round_component(alloc, &rounding, &values, &policy, planned, lower)?;
     Ok(())
@@ -135,7 +136,7 @@ fn local_game(
     for state in members {
         if *state < input.question.game().states() {
             let wanted = toward.get(*state as usize).copied().unwrap_or(NONE);
-            policy.push(add_state(input.question, wanted, lower, node_of, *state, &mut draft)?)?;
+            policy.push(add_state(input, wanted, lower, node_of, *state, &mut draft)?)?;
         }
     }
     clear_nodes(members, node_of);
@@ -147,20 +148,21 @@ fn local_game(
 
 /// Adds the node of a state, and returns its initial choice. For the maximiser this is the wanted one.
 fn add_state(
-    question: &Question,
+    input: &Input<'_, '_>,
     wanted: u32,
     lower: &UnitTable,
     node_of: &[u32],
     state: u32,
     draft: &mut Draft,
 ) -> Result<u32, OutOfMemory>
-    requires { state < states question.now }
+    requires { state < states input.now.question.now }
 {
-    let side = question.side(state);
-    let row = question.row(state);
+    let side = input.question.side(state);
+    let row = input.question.row(state);
     let mut first = u32::try_from(draft.choices()).unwrap_or(0);
     for choice in 0..row.choices() {
-        add_edges(&row, choice, node_of, lower.entries(), draft)?;
+        let cost = cost_of(input.costs, input.question.game(), state, choice);
+        add_edges(&row, choice, cost, node_of, lower.entries(), draft)?;
         let number = u32::try_from(draft.choices()).unwrap_or(0);
         let is_in = draft.end_choice(choice)?;
         if is_in && side == Side::Max && wanted == choice {

@@ -8,6 +8,7 @@ use crate::lower::note;
 use crate::weights::{float_of, is_narrow};
 use game_model::{Question, Row, Side};
 use std::num::nearest_u64_to_f64;
+use table_rounding::cost_of;
 
 /// A reply is exchanged for one that gives less than the value of its state by more than this many units.
 const GAIN: f64 = 4.0;
@@ -45,7 +46,7 @@ fn is_improved(input: &Input<'_, '_>, upper: &[f64], replies: &mut [u32], state:
         return false;
     }
     let own = value_at(upper, state);
-    let best = best_reply(input.question, upper, state);
+    let best = best_reply(input, upper, state);
     if !(best.value < own - GAIN) || replies.get(state as usize).copied() == Some(best.choice) {
         return false;
     }
@@ -61,17 +62,19 @@ struct Reply {
 }
 
 /// Returns the choice that gives the least.
-fn best_reply(question: &Question, upper: &[f64], state: u32) -> Reply
-    requires { state < states question.now }
+fn best_reply(input: &Input<'_, '_>, upper: &[f64], state: u32) -> Reply
+    requires { state < states input.now.question.now }
 {
-    let row = question.row(state);
+    let game = input.question.game();
+    let row = input.question.row(state);
     row.invariant();
     let mut best = Reply {
         choice: 0,
-        value: value_of(&row, upper, 0),
+        value: value_of(&row, upper, 0, cost_of(input.costs, game, state, 0)),
     };
     for choice in 1..row.choices() {
-        let value = value_of(&row, upper, choice);
+        let cost = cost_of(input.costs, game, state, choice);
+        let value = value_of(&row, upper, choice, cost);
         if value < best.value {
             best = Reply { choice, value };
         }
@@ -79,8 +82,8 @@ fn best_reply(question: &Question, upper: &[f64], state: u32) -> Reply
     best
 }
 
-/// Returns what a choice gives by these values.
-fn value_of(row: &Row<'_>, values: &[f64], choice: u32) -> f64
+/// Returns what a choice of this cost gives by these values.
+fn value_of(row: &Row<'_>, values: &[f64], choice: u32, cost: u64) -> f64
     requires { choice < length row.now }
 {
     let mut sum = 0.0;
@@ -95,7 +98,7 @@ fn value_of(row: &Row<'_>, values: &[f64], choice: u32) -> f64
             sum += float_of(edge.weight) * value_at(values, edge.to);
         }
     }
-    sum / float_of(row.total(choice))
+    sum / float_of(row.total(choice)) - nearest_u64_to_f64(cost)
 }
 
 /// Returns the value of a state.

@@ -3,10 +3,11 @@
 ghost use Rattle.std.specs.Prelude.{◌≡◌, ◌<◌, length, vec_len};
 ghost use Rattle.game_model.specs.Query.{states};
 
-use game_model::{Question, Side};
+use game_model::{Question, Side, UNIT};
 use game_outside::OutOfMemory;
 use predecessors::{Move, Predecessors};
 use std::alloc::Global;
+use table_rounding::cost_of;
 
 /// This number means no choice.
 pub const NONE: u32 = u32::MAX;
@@ -31,11 +32,13 @@ pub struct StateOrder {
 
 impl StateOrder {
     /// Finds the states of positive value in the order in which they join. A state of the maximiser joins by its first
-    /// choice that leads on, and one of the minimiser when all its choices do. The only error is that memory ran out.
+    /// choice that leads on, and one of the minimiser when all its choices do. A choice that costs more than the unit
+    /// does not lead on. The only error is that memory ran out.
     pub(crate) fn of_question(
         alloc: Global,
         question: &Question,
         predecessors: &Predecessors,
+        costs: Option<&[u64]>,
     ) -> Result<StateOrder, OutOfMemory>
         requires { length predecessors.now ≡ states question.now }
     {
@@ -47,7 +50,9 @@ impl StateOrder {
             };
             if state < states {
                 for step in predecessors.of_state(state) {
-                    state_order.follow(question, *step)?;
+                    if is_affordable(question, costs, *step) {
+                        state_order.follow(question, *step)?;
+                    }
                 }
             }
         }
@@ -121,4 +126,10 @@ impl StateOrder {
         self.next_choice[step.state as usize] = left.saturating_sub(1);
         left == 1
     }
+}
+
+/// Returns whether a choice costs at most the unit.
+fn is_affordable(question: &Question, costs: Option<&[u64]>, step: Move) -> bool {
+    step.state < question.game().states()
+        && cost_of(costs, question.game(), step.state, step.choice) <= UNIT
 }

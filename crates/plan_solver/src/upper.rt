@@ -10,12 +10,12 @@ use crate::lower::{clear_nodes, note, note_value, numbers, place_nodes};
 use crate::replies::is_played;
 use crate::state_order::NONE;
 use float_games::{Bound, Draft, FloatGame};
-use game_model::{Question, Side};
+use game_model::Side;
 use game_outside::OutOfMemory;
 use local_values::solve_nearly;
 use std::alloc::Global;
 use std::num::nearest_u64_to_f64;
-use table_rounding::{Input as RoundingInput, UnitTable, round_component, single_entry};
+use table_rounding::{Input as RoundingInput, UnitTable, cost_of, round_component, single_entry};
 
 /// Upper values begin with a value for each state, in units, and a choice of the maximiser.
 #[derive(Drop)]
@@ -66,7 +66,7 @@ pub(crate) fn upper_component(
     let members = input.components.members(component);
     if members.len() == 1 {
         let state = members[0];
-        let entry = single_entry(input.question, upper, Bound::Upper, state);
+        let entry = single_entry(input.question, upper, Bound::Upper, state, input.costs);
         upper.set(state, entry.value);
         note_value(shown, state, nearest_u64_to_f64(entry.value));
         note(replies, state, entry.choice);
@@ -98,6 +98,7 @@ pub(crate) fn upper_component(
         game: &game,
         nodes: &nodes,
         bound: Bound::Upper,
+        costs: input.costs,
     };
     let is_held = round_component(alloc, &rounding, &values, &policy, replies, upper)?;
     show(members, &nodes, &values, is_held, upper, shown);
@@ -215,7 +216,7 @@ fn local_game(
     for state in members {
         if *state < question.game().states() && shape.end_components.lead_of(*state) == *state {
             let first = add_group(
-                question,
+                input,
                 shape,
                 upper,
                 node_of,
@@ -236,7 +237,7 @@ fn local_game(
 /// Adds the node of an end component of at most this many states, or of a state that is in none. Returns the initial
 /// choice.
 fn add_group(
-    question: &Question,
+    input: &Input<'_, '_>,
     shape: &Shape<'_>,
     upper: &UnitTable,
     node_of: &[u32],
@@ -244,8 +245,9 @@ fn add_group(
     most: usize,
     draft: &mut Draft,
 ) -> Result<u32, OutOfMemory>
-    requires { lead < states question.now }
+    requires { lead < states input.now.question.now }
 {
+    let question = input.question;
     let is_merged = shape.end_components.next_of(lead) != NONE;
     let mut first = u32::try_from(draft.choices()).unwrap_or(0);
     let mut state = lead;
@@ -253,9 +255,7 @@ fn add_group(
         if state >= question.game().states() {
             break;
         }
-        if let Some(planned) = add_state(
-            question, shape, upper, node_of, state, is_merged, draft,
-        )? {
+        if let Some(planned) = add_state(input, shape, upper, node_of, state, is_merged, draft)? {
             first = planned;
         }
         state = shape.end_components.next_of(state);
@@ -267,7 +267,7 @@ fn add_group(
 /// Adds the choices of a state. For an end component these are the ones that leave it. Returns the choice with which
 /// the maximiser begins.
 fn add_state(
-    question: &Question,
+    input: &Input<'_, '_>,
     shape: &Shape<'_>,
     upper: &UnitTable,
     node_of: &[u32],
@@ -275,8 +275,9 @@ fn add_state(
     is_merged: bool,
     draft: &mut Draft,
 ) -> Result<Option<u32>, OutOfMemory>
-    requires { state < states question.now }
+    requires { state < states input.now.question.now }
 {
+    let question = input.question;
     let maximises = question.side(state) == Side::Max;
     let wanted = shape.planned.get(state as usize).copied();
     let row = question.row(state);
@@ -284,7 +285,8 @@ fn add_state(
     for choice in 0..row.choices() {
         let is_inner = is_merged && shape.end_components.hold(question, state, choice);
         if !is_inner && is_played(question, shape.replies, state, choice) {
-            add_edges(&row, choice, node_of, upper.entries(), draft)?;
+            let cost = cost_of(input.costs, question.game(), state, choice);
+            add_edges(&row, choice, cost, node_of, upper.entries(), draft)?;
             let number = u32::try_from(draft.choices()).unwrap_or(0);
             if draft.end_choice(choice)? && maximises && wanted == Some(choice) {
                 planned = Some(number);

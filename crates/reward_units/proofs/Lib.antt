@@ -5,3 +5,4 @@ pub mod Denominator
 pub mod Capped
 pub mod Grows
 pub mod Bounds
+pub mod Listed

@@ -1,2 +1,4 @@
 pub mod Units
 pub mod Exact
+pub mod Rounded
+pub mod inside

@@ -142,6 +142,7 @@ fn fill(
         game: &game,
         nodes: &nodes,
         bound,
+        costs: None,
     };
     round(alloc, &input, table)
 }
@@ -152,7 +153,7 @@ fn fill_single(question: &Question<'_>, state: u32, bound: Bound, table: &mut Un
     requires many { length table.old ≡ states question.now }
     ensures { length table.new ≡ length table.old }
 {
-    let entry = single_entry(question, table, bound, state);
+    let entry = single_entry(question, table, bound, state, None);
     table.set(
         state,
         if question.is_goal(state) {

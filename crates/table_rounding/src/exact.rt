@@ -4,13 +4,14 @@ ghost use Rattle.std.specs.Prelude.{◌≡◌, ◌<◌, ◌⊎◌, length};
 ghost use Rattle.game_model.specs.Game.{choices_of};
 ghost use Rattle.game_model.specs.Query.{states};
 
+use crate::costs::cost_of;
 use crate::table::UnitTable;
 use float_games::Bound;
 use game_model::{Question, Row, Side, UNIT};
 
 /// An excess compares what a choice gives by a table with an entry of its state. `moving` is the sum of the weights
 /// that lead to other states. `above` and `below` are the sums of these weights times how far the entries of those
-/// states are above this entry, or below it.
+/// states are above this entry, or below it. What the choice costs counts as below.
 #[derive(Clone, Copy)]
 struct Excess {
     above: u128,
@@ -27,6 +28,17 @@ impl Excess {
             above: self.above.wrapping_add(weight.wrapping_mul(up)),
             below: self.below.wrapping_add(weight.wrapping_mul(down)),
             moving: self.moving.wrapping_add(weight),
+        }
+    }
+
+    /// Returns the excess when the choice, of this total weight, costs this many units.
+    fn less(self, total: u128, cost: u64) -> Excess {
+        Excess {
+            above: self.above,
+            below: self
+                .below
+                .wrapping_add(total.wrapping_mul(u128::from(cost))),
+            moving: self.moving,
         }
     }
 
@@ -92,8 +104,20 @@ impl Divided {
 /// Totals below this, times the unit, fit 64 bits.
 const SMALL: u128 = 16_384;
 
-/// Returns what a choice of a state gives, compared with this entry. Edges to the state itself are left out.
-fn excess_of(row: &Row<'_>, entries: &[u64], state: u32, choice: u32, own: u64) -> Excess
+/// Returns what a choice of a state gives, less its cost, compared with this entry. Edges to the state itself are left
+/// out.
+fn excess_of(row: &Row<'_>, entries: &[u64], state: u32, choice: u32, own: u64, cost: u64) -> Excess
+    requires { choice < length row.now }
+{
+    let excess = excess_of_edges(row, entries, state, choice, own);
+    if cost == 0 {
+        return excess;
+    }
+    excess.less(row.total(choice), cost)
+}
+
+/// Returns the same for a choice that costs nothing.
+fn excess_of_edges(row: &Row<'_>, entries: &[u64], state: u32, choice: u32, own: u64) -> Excess
     requires { choice < length row.now }
 {
     if row.total(choice) < 18_446_744_073_709_551_616 {
@@ -180,6 +204,7 @@ pub(crate) fn held_entry(
     bound: Bound,
     state: u32,
     planned: u32,
+    costs: Option<&[u64]>,
 ) -> u64
     requires state { state < states question.now }
     requires many { length table.now ≡ states question.now }
@@ -192,7 +217,8 @@ pub(crate) fn held_entry(
     let end = if is_planned { planned + 1 } else { count };
     let mut most: u64 = 0;
     for choice in first..end {
-        let excess = excess_of(&row, table.entries(), state, choice, own);
+        let cost = cost_of(costs, question.game(), state, choice);
+        let excess = excess_of(&row, table.entries(), state, choice, own, cost);
         most = most.max(match bound {
             Bound::Lower => excess.fall(),
             Bound::Upper => excess.rise(),
@@ -215,8 +241,14 @@ pub struct Entry {
 
 /// Returns the entry of a state that leads to no other state of its component: what its best choice gives by the table,
 /// rounded down or up. A choice that leads only back to the state counts for nothing. If there is no other, the entry
-/// is 0.
-pub fn single_entry(question: &Question, table: &UnitTable, bound: Bound, state: u32) -> Entry
+/// is 0. The choices have these costs, if there are any.
+pub fn single_entry(
+    question: &Question,
+    table: &UnitTable,
+    bound: Bound,
+    state: u32,
+    costs: Option<&[u64]>,
+) -> Entry
     requires { state < states question.now }
     ensures { result.choice < length (choices_of question.now.game state) }
 {
@@ -224,11 +256,13 @@ pub fn single_entry(question: &Question, table: &UnitTable, bound: Bound, state:
     let mut best: Option<Entry> = None;
     let row = question.row(state);
     for choice in 0..row.choices() {
-        let excess = excess_of(&row, table.entries(), state, choice, 0);
+        let cost = cost_of(costs, question.game(), state, choice);
+        let excess = excess_of(&row, table.entries(), state, choice, 0, cost);
         if excess.moving == 0 {
             continue;
         }
-        let value = Divided::of(excess.above, excess.moving).rounded(bound);
+        let gain = excess.above.saturating_sub(excess.below);
+        let value = Divided::of(gain, excess.moving).rounded(bound);
         best = Some(better(question.side(state), best, Entry { value, choice }));
     }
     best.unwrap_or(Entry {

@@ -26,6 +26,8 @@ pub struct Input<'a, 'q> {
     pub nodes: &'a [u32],
     /// This bound is rounded.
     pub bound: Bound,
+    /// If the choices of the game cost something, each has a cost here, state by state, in units.
+    pub costs: Option<&'a [u64]>,
     ghost predecessors_all: { length predecessors.now ≡ states question.now },
     ghost components_all: { states_of components.now ≡ states question.now },
     ghost counted: { component + 1 < length components.now.starts },

@@ -3,7 +3,8 @@
 //! A lower table holds at a state if its entry is at most what the planned choice of the maximiser and each choice of
 //! the minimiser give by it. An upper table holds if its entry is at least what each choice of the maximiser and the
 //! planned one of the minimiser give. [`round_component`] finds entries for the states of a component that hold and are
-//! near values, and [`single_entry`] finds that of a component of one state. [`UnitTable`] is a table of units.
+//! near values, and [`single_entry`] finds that of a component of one state. [`UnitTable`] is a table of units. What a
+//! choice gives is less by its cost, if choices have costs ([`cost_of`]).
 //!
 //! Values are rounded, settled in floating point by rounded steps, and repaired by exact ones in 128 bits, until each
 //! entry holds. If that would take long, values are moved away by some units for each move that the policy is expected
@@ -14,6 +15,7 @@
 //! Each loop has its count.
 #![tactic(auto)]
 
+mod costs;
 mod exact;
 mod input;
 mod margins;
@@ -21,6 +23,7 @@ mod repair;
 mod rounding;
 mod table;
 
+pub use costs::cost_of;
 pub use exact::{Entry, single_entry};
 pub use input::Input;
 pub use margins::round_component;

@@ -93,7 +93,7 @@ fn repair_state(
         return Ok(());
     }
     let plan = planned[state as usize];
-    let held = held_entry(input.question, table, input.bound, state, plan);
+    let held = held_entry(input.question, table, input.bound, state, plan, input.costs);
     if held == table.get(state) {
         return Ok(());
     }

@@ -1,0 +1,19 @@
+//! This crate finds tables of expected rewards in floating point, for a check to accept or to refuse.
+//!
+//! [`find_reward_bounds`] looks at the game from the minimiser's side, who wants to come to a goal cheaply. A value of so
+//! many units of reward is there 10^15 less these units: the unit at a goal, less what the choices on the way cost. So
+//! `plan_solver::find_costly_bounds` finds both tables. The minimiser begins with choices that lead to a goal, and a
+//! choice is exchanged only for one that gains, so it goes on to reach one: a loop that pays nothing does not hold it.
+//!
+//! Values are in units of 10^-places. The places are the most for which the greatest value is at most 10^15 units; they
+//! are found by solving again with more places.
+//!
+//! Nothing is promised of the tables but that they have an entry for each state of at most 10^15 units. The rewards are
+//! exactly those of the file in these units. Every function here is safe and ends.
+#![tactic(auto)]
+
+mod costs;
+mod places;
+mod search;
+
+pub use search::{RewardCandidates, find_reward_bounds};
