@@ -85,6 +85,9 @@ ended sign join operand left ts said at e = by_most at.most at.is
     by_most (suc most) is = sym is ∙ ap (λ o.
         where_next o (Ok (left, ts)) (λ a. operand a >>= λ x. further sign join operand most (join left x.0) x.1)) e
 
+-- what a step over operands makes of what was read
+pub ruleset operands = (begun, went_on, broke_off, ended)
+
 -- where there is room
 pub nested_within : (room : ℕ) (token : Token) → 0 < room
     → (nested room).state token ≡ inside_of (nested (room - 1)) token

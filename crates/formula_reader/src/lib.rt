@@ -21,4 +21,4 @@ pub use formula::{Bound, Formula, Names, PathKind, StateFormula};
 pub use heads::read_coalition;
 pub use limits::{MOST_NESTED, MOST_STEPS};
 pub use read::read_formula;
-pub use states::{Read, read_state};
+pub use states::{ReadState, read_state};

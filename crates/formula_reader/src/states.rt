@@ -19,13 +19,13 @@ use game_outside::Name;
 use std::alloc::Global;
 
 /// This is a state formula, and what is left behind it, or the first fault.
-pub type Read<'a> = Result<(StateFormula, Cursor<'a>), FormulaFault>;
+pub type ReadState<'a> = Result<(StateFormula, Cursor<'a>), FormulaFault>;
 
 /// This is the kind of a path, its two sides, and what is left behind it, or the first fault.
 pub type ReadPath<'a> = Result<(PathKind, StateFormula, StateFormula, Cursor<'a>), FormulaFault>;
 
 // Reads `true`, `false` or a quoted name.
-fn plain_state<'a>(alloc: Global, token: Token<'a>) -> Read<'a>
+fn plain_state<'a>(alloc: Global, token: Token<'a>) -> ReadState<'a>
     ensures { AnswersOrWants IsOutOfMemory (read_at state_of) result (plain (token_of token.entry)) }
 {
     if token.is("true") {
@@ -55,9 +55,9 @@ fn label(alloc: Global, spelling: &[u8]) -> Result<Name, FormulaFault>
 }
 
 // Reads operands of a level, with its sign between them, if `room` more `!`, `(` and `[` may be open.
-#[tactic(auto, using(crate::proofs::Joining::begun, crate::proofs::Joining::went_on, crate::proofs::Joining::broke_off, crate::proofs::Joining::ended))]
+#[tactic(auto, using(crate::proofs::Joining::operands))]
 #[cycle(state)]
-fn level_state<'a>(alloc: Global, level: Level, room: u32, cursor: Cursor<'a>) -> Read<'a>
+fn level_state<'a>(alloc: Global, level: Level, room: u32, cursor: Cursor<'a>) -> ReadState<'a>
     ensures { AnswersOrWants IsOutOfMemory (read_at state_of) result
         (level_of level (unary (nested room)) (tokens_at cursor.entry)) }
 {
@@ -72,7 +72,7 @@ fn level_state<'a>(alloc: Global, level: Level, room: u32, cursor: Cursor<'a>) -
 
 // Reads an operand between the signs of a level.
 #[cycle(state)]
-fn operand_state<'a>(alloc: Global, level: Level, room: u32, cursor: Cursor<'a>) -> Read<'a>
+fn operand_state<'a>(alloc: Global, level: Level, room: u32, cursor: Cursor<'a>) -> ReadState<'a>
     ensures { AnswersOrWants IsOutOfMemory (read_at state_of) result
         (operand_of level (unary (nested room)) (tokens_at cursor.entry)) }
 {
@@ -84,7 +84,7 @@ fn operand_state<'a>(alloc: Global, level: Level, room: u32, cursor: Cursor<'a>)
 }
 
 #[cycle(state)]
-fn unary_state<'a>(alloc: Global, room: u32, cursor: Cursor<'a>) -> Read<'a>
+fn unary_state<'a>(alloc: Global, room: u32, cursor: Cursor<'a>) -> ReadState<'a>
     ensures { AnswersOrWants IsOutOfMemory (read_at state_of) result (unary (nested room) (tokens_at cursor.entry)) }
 {
     let token = next_token(cursor)?;
@@ -106,7 +106,7 @@ fn begins_formula(token: &Token<'_>) -> bool
 // Reads what a `!` or a `(` begins.
 #[tactic(auto, using(crate::proofs::Joining::nested_within, crate::proofs::Joining::nested_without))]
 #[cycle(state)]
-fn nested_state<'a>(alloc: Global, room: u32, token: Token<'a>) -> Read<'a>
+fn nested_state<'a>(alloc: Global, room: u32, token: Token<'a>) -> ReadState<'a>
     ensures { AnswersOrWants IsOutOfMemory (read_at state_of) result ((nested room).state (token_of token.entry)) }
 {
     if room == 0 {
@@ -124,7 +124,7 @@ fn nested_state<'a>(alloc: Global, room: u32, token: Token<'a>) -> Read<'a>
 
 // Reads a formula inside.
 #[cycle(state)]
-fn inner_state<'a>(alloc: Global, room: u32, cursor: Cursor<'a>) -> Read<'a>
+fn inner_state<'a>(alloc: Global, room: u32, cursor: Cursor<'a>) -> ReadState<'a>
     ensures { AnswersOrWants IsOutOfMemory (read_at state_of) result (inner (nested room) (tokens_at cursor.entry)) }
 {
     let (coalition, rest) = read_coalition(alloc, cursor)?;
@@ -202,7 +202,7 @@ fn read_reached<'a>(
 
 /// Reads a state formula, if `room` more `!`, `(` and `[` may be open in it.
 #[cycle(state)]
-pub fn read_state<'a>(alloc: Global, room: u32, cursor: Cursor<'a>) -> Read<'a>
+pub fn read_state<'a>(alloc: Global, room: u32, cursor: Cursor<'a>) -> ReadState<'a>
     ensures { AnswersOrWants IsOutOfMemory (read_at state_of) result
         (implied (unary (nested room)) (tokens_at cursor.entry)) }
 {
