@@ -13,8 +13,9 @@ use game_outside::OutOfMemory;
 use predecessors::Move;
 use std::alloc::Global;
 
-/// `members` marks the members. `next_choice` has, for each state of the minimiser that is neither a member nor
-/// excluded, the first choice that is not known to serve. `order` lists the members in the order in which they joined.
+/// An attractor search is a set of states that grows. `members` marks the members. `next_choice` has, for each state of
+/// the minimiser that is neither a member nor excluded, the first choice that is not known to serve. `order` lists the
+/// members in the order in which they joined.
 #[derive(Drop)]
 pub struct AttractorSearch {
     pub members: Vec<bool>,

@@ -1,10 +1,10 @@
-//! This module has numbers whose digits a text spells.
+//! This module computes a number from its digits.
 
 ghost use Rattle.std.specs.Prelude.{◌≡◌, ◌≤◌, ◌+◌, ◌*◌, ◌^◌, true, length};
 ghost use Rattle.text_lines.specs.Text.{all_digits, value_onto};
 ghost use Rattle.numerals.specs.Limits.{most_digits};
 
-/// Returns the number whose digits are those of a number and then these.
+/// Returns the number whose digits are those of `before`, followed by these.
 pub fn digits_onto(before: u128, digits: &[u8]) -> u128
     requires digits { all_digits digits.now ≡ true }
     requires small { (before + 1) * 10 ^ length digits.now ≤ 10 ^ most_digits }

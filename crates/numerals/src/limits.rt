@@ -1,4 +1,4 @@
-//! This module has the limits, as `specs/Limits.antt` defines them: `laws::limits` says so.
+//! This module has the limits of spelled numbers. `laws::limits` says that `specs/Limits.antt` defines the same.
 
 /// A decimal without its exponent, and each side of a quotient, has at most this many digits.
 pub const MOST_DIGITS: usize = 30;

@@ -1,4 +1,4 @@
-//! This module takes numbers apart as texts spell them.
+//! This module splits numbers into the digits that a text spells them with.
 
 ghost use Rattle.std.specs.Prelude.{◌≡◌, ◌≤◌, ◌&&◌, not, length, option_map, IfSome};
 ghost use Rattle.text_lines.specs.Text.{is_nil, all_digits};
@@ -68,6 +68,7 @@ fn only_digits(text: &[u8]) -> bool
     !text.is_empty() && digits_length(text) == text.len()
 }
 
+// Returns the exponent with these digits, if they are digits and at least one.
 fn power_of_digits(below: bool, digits: &[u8]) -> Option<Power<'_>>
     ensures { option_map exponent_in result ≡ exponent_digits below digits.now }
 {
@@ -121,6 +122,7 @@ fn read_quotient<'a>(above: &'a [u8], below: &'a [u8]) -> Option<Written<'a>>
     }
 }
 
+// Reads the number with these digits at the front, and the text after them.
 fn read_behind<'a>(front: &'a [u8], text: &'a [u8]) -> Option<Written<'a>>
     ensures { option_map spelling_in result ≡ behind_front front.now text.now }
 {
@@ -134,7 +136,7 @@ fn read_behind<'a>(front: &'a [u8], text: &'a [u8]) -> Option<Written<'a>>
     }
 }
 
-/// Takes a number apart, if the text spells one.
+/// Returns the digits of the number that the text spells, if it spells one.
 pub fn read_spelling(text: &[u8]) -> Option<Written<'_>>
     ensures spelling { option_map spelling_in result ≡ spelling_of text.now }
     ensures digits { IfSome result IsOfDigits }

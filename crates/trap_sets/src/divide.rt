@@ -21,7 +21,7 @@ pub fn divided(alloc: Global, mdp: &ReplyMdp<'_>, part: &[u32]) -> Result<Vec<u3
     Ok(class)
 }
 
-/// Names each part after its first state. Removal may have taken the state after which it was named.
+/// Names each part after its first state, because the state after which it was named may have been removed.
 pub fn renamed(alloc: Global, mdp: &ReplyMdp<'_>, part: &[u32]) -> Result<Vec<u32>, OutOfMemory>
     requires keeps { KeepsEndsOf mdp.now part.now }
     ensures keeps { IfOk result (λ class. KeepsEndsOf mdp.now class.items) }

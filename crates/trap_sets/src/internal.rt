@@ -15,8 +15,8 @@ use game_outside::OutOfMemory;
 use predecessors::ChoiceFlags;
 use std::alloc::Global;
 
-/// The parts of an MDP of the replies come with a flag for each choice, in the order of the game, that says whether it
-/// is internal.
+/// These are the parts of an MDP of the replies. For each choice, in the order of the game, a flag says whether it is
+/// internal.
 #[derive(Drop)]
 pub struct Internal<'a> {
     pub mdp: ReplyMdp<'a>,

@@ -32,9 +32,9 @@ impl Guesses<'_> {
     ghost use Rattle.upper_guess.specs.Guess.{AreWitnesses};
     ghost use Rattle.upper_guess.specs.inside.OfGuesses.{first_entry_of, IsTableOf, AreRefusedOf, IsFirstOf, steps_of};
 
-    /// Returns the first of the tables of this excess that is accepted, or none if each is refused. A table that is
-    /// seen to be refused at the witness of its steps, or at a state of a sample, is not made. That state becomes the
-    /// witness. If a table is made and refused, it is the state that rises most from it.
+    /// Returns the first of the tables of this excess that is accepted, or none if each is refused. A table is not made
+    /// if it is seen to be refused at the witness of its steps, or at a state of a sample. That state then becomes the
+    /// witness. If a table is made and refused, the witness becomes the state that rises most from it.
     pub fn first_accepted<M: UpTables>(
         &self,
         maker: &M,

@@ -22,8 +22,8 @@ const SAMPLED: u32 = 32;
 const SPREAD: u32 = 2_654_435_769;
 
 impl Guesses<'_> {
-    /// Returns a state at which a table is seen to be refused, when a table after `made` up steps is at hand: the given
-    /// one, or else one that a sample meets.
+    /// Returns a state at which the table after `steps` up steps is seen to be refused. This is the given state, or
+    /// else a state of a sample. A table after `made` up steps was made before.
     pub fn refusal(&self, steps: u32, state: u32, made: u32) -> Option<u32>
         requires steps { steps ≤ most_steps }
         requires state { state < states self.now.question.now }
@@ -58,9 +58,9 @@ impl Guesses<'_> {
         None
     }
 
-    /// Returns whether a table is seen to be refused at this state, when a table after `made` up steps is at hand. It
-    /// is not seen if the recursion would look into more states than the question has and, if these are few, into more
-    /// than twice as many as the up steps from that table on: then the table costs no more.
+    /// Returns whether the table after `steps` up steps is seen to be refused at this state. The recursion looks into
+    /// no more states than the question has. If these are few, it may look into up to twice as many as the up steps
+    /// from the table that was made would, because it then costs no more than they do.
     fn refuses_at(&self, steps: u32, state: u32, made: u32) -> bool
         requires steps { steps ≤ most_steps }
         requires state { state < states self.now.question.now }
