@@ -18,8 +18,8 @@ use Rattle.transition_lines.specs.Choices.{part_of, parts_of, transitions_of, ch
 use Rattle.transition_lines.specs.Choices.{states_said, unless_gap, unless_crowded, if_as_stated, transitions_game}
 use Rattle.transition_lines.specs.Order.{IsWithin, place_of}
 use Rattle.tra_reader.specs.inside.GrowingGames.{LeadsInside}
-use Rattle.tra_reader.specs.inside.GrowingGames.{AreCounted, AreDrafted, HaveFault, HasGap, IsMade, IsWhole}
-use Rattle.tra_reader.specs.inside.GrowingGames.{place_behind, NoneBetween, AreWholeBefore, IsReady, IfBuilds}
+use Rattle.tra_reader.specs.inside.GrowingGames.{AreCounted, AreDrafted, HaveFault, HasGap, IsMade, AreFinished}
+use Rattle.tra_reader.specs.inside.GrowingGames.{place_behind, NoneBetween, AreFinishedBefore, IsReady, IfBuilds}
 use Rattle.tra_reader.specs.inside.GrowingGames.{IsAsStated}
 use Rattle.std.proofs.lemmas.Bool.{cases_lt}
 use Rattle.transition_lines.proofs.Ends.{AreSmall, none_of_high, above_of, one_missing, gap_here, gap_stays}
@@ -61,7 +61,7 @@ none_here ts s k to low here none = λ i j small le lt. elim (cases_lt (place_of
 -- behind the choice under way nothing stands up to a place
 pub before_next : (n place : ℕ) (ts : List Transition) (old new : FinishedChoices) → new.state ≡ old.state
     → new.choice ≡ old.choice + 1 → old.choice < most_stated_choices → All (IsWithin n) ts
-    → NoneBetween ts (place_behind old + 1) place → IsWhole n ts new → AreWholeBefore n ts place new
+    → NoneBetween ts (place_behind old + 1) place → AreFinished n ts new → AreFinishedBefore n ts place new
 before_next n place ts old new state choice low within none made = record {
   made = made;
   low = omega (arith, low, choice);
@@ -70,14 +70,15 @@ before_next n place ts old new state choice low within none made = record {
 }
 
 -- where nothing has begun
-pub before_first : (n place : ℕ) (ts : List Transition) (whole : FinishedChoices) (parts : List Part) → parts ≡ []
-    → parts ≡ parts_of ts whole.state whole.choice → whole.choice < most_stated_choices → All (IsWithin n) ts
-    → NoneBetween ts (place_behind whole + 1) place → IsWhole n ts whole → AreWholeBefore n ts place whole
-before_first n place ts whole parts empty are low within none made = record {
+pub before_first : (n place : ℕ) (ts : List Transition) (finished : FinishedChoices) (parts : List Part) → parts ≡ []
+    → parts ≡ parts_of ts finished.state finished.choice → finished.choice < most_stated_choices → All (IsWithin n) ts
+    → NoneBetween ts (place_behind finished + 1) place → AreFinished n ts finished
+    → AreFinishedBefore n ts place finished
+before_first n place ts finished parts empty are low within none made = record {
   made = made;
   low = omega (arith, low);
-  none = none_here ts whole.state whole.choice place low
-      (no_part (transitions_of ts whole.state whole.choice) (sym are ∙ empty)) none;
+  none = none_here ts finished.state finished.choice place low
+      (no_part (transitions_of ts finished.state finished.choice) (sym are ∙ empty)) none;
   within = within;
 }
   where
@@ -87,12 +88,13 @@ before_first n place ts whole parts empty are low within none made = record {
 
 -- 2. All finished choices.
 
-pub made_of_all : (n : ℕ) (ts : List Transition) (whole : FinishedChoices) (progress : BuildState) → whole.state ≡ n
-    → whole.choice ≡ 0 → whole.progress ≡ progress → IsWhole n ts whole → IsMade n ts n 0 whole.count progress
-made_of_all n ts whole progress state choice is made =
-    let P : ℕ → Type 0 = λ s. IsMade n ts s whole.choice whole.count whole.progress in
-    let Q : ℕ → Type 0 = λ k. IsMade n ts n k whole.count whole.progress in
-    let R : BuildState → Type 0 = λ p. IsMade n ts n 0 whole.count p in
+pub made_of_all : (n : ℕ) (ts : List Transition) (finished : FinishedChoices) (build_state : BuildState)
+    → finished.state ≡ n → finished.choice ≡ 0 → finished.build_state ≡ build_state → AreFinished n ts finished
+    → IsMade n ts n 0 finished.count build_state
+made_of_all n ts finished build_state state choice is made =
+    let P : ℕ → Type 0 = λ s. IsMade n ts s finished.choice finished.count finished.build_state in
+    let Q : ℕ → Type 0 = λ k. IsMade n ts n k finished.count finished.build_state in
+    let R : BuildState → Type 0 = λ p. IsMade n ts n 0 finished.count p in
     subst R is (subst Q choice (subst P state made))
 
 pub gap_game : (ts : List Transition) (n i j : ℕ) (stated : Option ℕ) → i < n → HasGap ts i j
@@ -138,7 +140,7 @@ ready n ts k draft some few are = record {
       subst P (sym are.as_many) are.inside;
 }
 
-pub all_ready : (n : ℕ) (ts : List Transition) (k count : ℕ) (progress : BuildState) → 0 < n → n ≤ most_states
-    → IsMade n ts n k count progress → IfBuilds progress IsReady
+pub all_ready : (n : ℕ) (ts : List Transition) (k count : ℕ) (build_state : BuildState) → 0 < n → n ≤ most_states
+    → IsMade n ts n k count build_state → IfBuilds build_state IsReady
 all_ready n ts k count (Builds draft) some few made = ready n ts k draft some few made.1
-all_ready n ts k count progress some few made = tt
+all_ready n ts k count build_state some few made = tt

@@ -10,7 +10,7 @@ pub mod Inside
 pub mod Sorted
 pub mod Stays
 pub mod Behind
-pub mod WholeSteps
+pub mod FinishedSteps
 pub mod Gaps
 pub mod Growing
 pub mod FileAnswers

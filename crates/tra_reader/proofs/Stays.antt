@@ -100,9 +100,9 @@ gap_stays ts t s k i j is lt gap = record {
 }
 
 -- what has come of the finished choices stays
-pub made_stays : (n : ℕ) (ts : List Transition) (t : Transition) (s k count : ℕ) (progress : BuildState)
+pub made_stays : (n : ℕ) (ts : List Transition) (t : Transition) (s k count : ℕ) (build_state : BuildState)
     → t.choice < most_stated_choices → k ≤ most_stated_choices → place_of s k ≤ transition_place t
-    → IsMade n ts s k count progress → IsMade n (ts ++ t ∷ []) s k count progress
+    → IsMade n ts s k count build_state → IsMade n (ts ++ t ∷ []) s k count build_state
 made_stays n ts t s k count (Builds draft) small low le made =
     let is : IsBehind s k t = record { small = small; low = low; place = le } in
     (counted_stay None ts t s k count is made.0, drafted_stay n ts t s k draft is made.1)

@@ -18,7 +18,7 @@ use transition_lines::{Header, TraFault, Transition};
 #[derive(Drop)]
 pub struct UnorderedReader {
     alloc: Global,
-    held: Option<AnyRows>,
+    held: Option<UnorderedRows>,
 }
 
 impl UnorderedReader {
@@ -33,18 +33,18 @@ impl UnorderedReader {
 }
 
 impl LineReader for UnorderedReader {
-    ghost use Rattle.tra_reader.specs.inside.AnyOrder.{AnyRight};
+    ghost use Rattle.tra_reader.specs.inside.AnyOrder.{IsRightInAnyOrder};
 
     type Made = Game;
 
     type Fault = TraFault;
 
-    ghost answers = { λ reader number lines answer. AnyRight reader.held number lines answer };
+    ghost answers = { λ reader number lines answer. IsRightInAnyOrder reader.held number lines answer };
 
     fn take(&mut self, number: u32, line: &[u8]) -> Result<(), TraFault> {
         match &mut self.held {
             None => {
-                self.held = Some(AnyRows::begin(self.alloc, line)?);
+                self.held = Some(UnorderedRows::begin(self.alloc, line)?);
                 Ok(())
             }
             Some(held) => held.take(number, line),
@@ -69,7 +69,7 @@ impl LineReader for UnorderedReader {
 
 /// Holds the rows behind a header: their transitions, and the first action of each choice.
 #[derive(Drop)]
-pub struct AnyRows {
+pub struct UnorderedRows {
     header: Header,
     transitions: Vec<Transition>,
     actions: LineActions,
@@ -77,15 +77,15 @@ pub struct AnyRows {
     ghost within: { All (IsWithin header.states) transitions.items },
 }
 
-impl AnyRows {
-    ghost use Rattle.tra_reader.specs.inside.AnyOrder.{BeginsAny, TakesAny, RefusesAny, AddsAny, RefusesAnyRow, FinishesAny};
+impl UnorderedRows {
+    ghost use Rattle.tra_reader.specs.inside.AnyOrder.{BeginsUnordered, TakesUnordered, RefusesUnordered, AddsUnordered, RefusesUnorderedRow, FinishesUnordered};
 
     /// Reads the header from this line, and holds no row yet.
-    pub fn begin(alloc: Global, line: &[u8]) -> Result<AnyRows, TraFault>
-        ensures { BeginsAny line.now result }
+    pub fn begin(alloc: Global, line: &[u8]) -> Result<UnorderedRows, TraFault>
+        ensures { BeginsUnordered line.now result }
     {
         let header = first_line(line)?;
-        Ok(AnyRows {
+        Ok(UnorderedRows {
             header,
             transitions: Vec::new(alloc),
             actions: LineActions::new(alloc),
@@ -95,8 +95,8 @@ impl AnyRows {
     /// Takes the row of a line that is not blank.
     pub fn take(&mut self, number: u32, line: &[u8]) -> Result<(), TraFault>
         requires { fields_of line.now ≢ [] }
-        ensures ok { OnOk result (TakesAny self.old self.new line.now) }
-        ensures fault { MatchResult result (λ _. Unit {0}) (λ fault. RefusesAny self.old number line.now fault) }
+        ensures ok { OnOk result (TakesUnordered self.old self.new line.now) }
+        ensures fault { MatchResult result (λ _. Unit {0}) (λ fault. RefusesUnordered self.old number line.now fault) }
     {
         match read_row(&self.header, self.transitions.len(), number, line) {
             Err(fault) => Err(fault),
@@ -107,9 +107,11 @@ impl AnyRows {
     // Takes a row, unless it clashes with another row of its choice.
     fn add(&mut self, number: u32, transition: Transition, action: &[u8]) -> Result<(), TraFault>
         requires { IsWithin self.old.header.states transition }
-        ensures ok { OnOk result (AddsAny self.old self.new (record { transition = transition; action = action.now })) }
+        ensures ok { OnOk result
+            (AddsUnordered self.old self.new (record { transition = transition; action = action.now })) }
         ensures fault { MatchResult result (λ _. Unit {0})
-            (λ fault. RefusesAnyRow self.old number (record { transition = transition; action = action.now }) fault) }
+            (λ fault. RefusesUnorderedRow self.old number (record { transition = transition; action = action.now })
+            fault) }
     {
         let place = transition.place();
         if self.actions.note(&self.transitions, place, action)? {
@@ -121,7 +123,7 @@ impl AnyRows {
 
     /// Makes the game of the rows when the text has no more.
     pub fn finish(self, alloc: Global) -> Result<Game, TraFault>
-        ensures { FinishesAny self result }
+        ensures { FinishesUnordered self result }
     {
         check_count(&self.header, self.transitions.len())?;
         build(alloc, self.transitions, &self.header)

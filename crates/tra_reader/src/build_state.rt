@@ -3,7 +3,7 @@
 ghost use Rattle.std.specs.Prelude.{◌≡◌, ◌≤◌, IfOk, IfErr};
 ghost use Rattle.game_model.specs.Limits.{most_choices};
 ghost use Rattle.transition_lines.specs.Choices.{self_loop};
-ghost use Rattle.tra_reader.specs.inside.GrowingGames.{IsBuilt, IsChoiceFault, EndsChoice, EndsState, CrowdsState, NotesGap, ended, progress_of};
+ghost use Rattle.tra_reader.specs.inside.GrowingGames.{IsBuilt, IsChoiceFault, EndsChoice, EndsState, CrowdsState, NotesGap, ended, after_fault};
 
 use distributions::laws::said_is_denoted;
 use distributions::{ChoiceFault, Part, fill_choice, known_of_all};
@@ -27,7 +27,7 @@ pub enum BuildState {
 }
 
 impl BuildState {
-    /// Makes the choice of this state with these parts whole. The list of edges is room to make it in.
+    /// Finishes the choice of this state with these parts. The list of edges is room to make it in.
     pub fn push(
         &mut self,
         alloc: Global,
@@ -40,7 +40,7 @@ impl BuildState {
     {
         if let BuildState::Builds(builder) = self {
             if let Err(fault) = build(alloc, builder, room, parts) {
-                *self = fault_progress(state, choice, fault);
+                *self = after_fault(state, choice, fault);
             }
         }
     }
@@ -114,8 +114,8 @@ fn build(
 }
 
 // Returns the build state after a choice with this fault.
-fn fault_progress(state: u32, choice: u32, fault: ChoiceFault) -> BuildState
-    ensures { result ≡ progress_of state choice fault }
+fn after_fault(state: u32, choice: u32, fault: ChoiceFault) -> BuildState
+    ensures { result ≡ after_fault state choice fault }
 {
     match fault {
         ChoiceFault::OutOfMemory => BuildState::OutOfMemory,

@@ -1,5 +1,5 @@
-//! This module holds the choices of a game under way that are whole because the transitions come in the order of their
-//! choices.
+//! This module holds the choices of a game under way that are finished because the transitions come in the order of
+//! their choices.
 
 ghost use Rattle.std.specs.Prelude.{◌≡◌, ◌<◌, ◌≤◌, ◌+◌, ℕ, List};
 ghost use Rattle.transition_lines.specs.declared.line.Transition.{Transition};
@@ -8,7 +8,7 @@ ghost use Rattle.game_outside.specs.Answers.{AnswersOrWants};
 ghost use Rattle.transition_lines.specs.Faults.{IsOutOfMemory};
 ghost use Rattle.transition_lines.specs.Choices.{transitions_game};
 ghost use Rattle.transition_lines.specs.Order.{place_of};
-ghost use Rattle.tra_reader.specs.inside.GrowingGames.{IsWhole, place_behind, AddsChoice, EndsStates, EndsBefore, GoesTo, IsReady, IfBuilds, IsAsStated};
+ghost use Rattle.tra_reader.specs.inside.GrowingGames.{AreFinished, place_behind, AddsChoice, EndsStates, EndsBefore, GoesTo, IsReady, IfBuilds, IsAsStated};
 
 use crate::build_state::BuildState;
 use distributions::Part;
@@ -22,27 +22,27 @@ pub struct FinishedChoices {
     pub state: u32,
     pub choice: u32,
     pub count: u32,
-    pub progress: BuildState,
+    pub build_state: BuildState,
 }
 
 impl FinishedChoices {
-    /// Makes one more choice whole, which has these parts. The list of edges is room to make it in.
+    /// Finishes one more choice, which has these parts. The list of edges is room to make it in.
     fn end_choice(&mut self, alloc: Global, room: &mut Vec<Edge>, parts: &[Part])
         requires { self.old.choice < most_stated_choices }
         ensures state { self.new.state ≡ self.old.state }
         ensures choice { self.new.choice ≡ self.old.choice + 1 }
         ensures made { AddsChoice parts.now self.old self.new }
     {
-        self.progress
+        self.build_state
             .push(alloc, room, parts, self.state, self.choice);
         self.choice += 1;
         match self.count.checked_add(1) {
             Some(count) => self.count = count,
-            None => self.progress = BuildState::OutOfMemory,
+            None => self.build_state = BuildState::OutOfMemory,
         }
     }
 
-    /// Makes the states before this one whole.
+    /// Finishes the states before this one.
     fn end_states(&mut self, alloc: Global, to: u32)
         requires { self.old.state ≤ to }
         ensures state { self.new.state ≡ to }
@@ -51,14 +51,13 @@ impl FinishedChoices {
         ensures made { EndsStates to self.old self.new }
     {
         while self.state < to {
-            self.progress.end_state(alloc, self.state, self.choice);
+            self.build_state.end_state(alloc, self.state, self.choice);
             self.state += 1;
             self.choice = 0;
         }
     }
 
-    /// Makes all choices before this state whole. The choice under way has these parts, or no part if nothing has
-    /// begun.
+    /// Finishes all choices before this state. The choice under way has these parts, or no part if nothing has begun.
     pub fn end_before(&mut self, alloc: Global, room: &mut Vec<Edge>, parts: &[Part], to: u32)
         requires low { self.old.choice < most_stated_choices }
         requires ahead { self.old.state ≤ to }
@@ -83,19 +82,19 @@ impl FinishedChoices {
         if self.choice == choice {
             return;
         }
-        self.progress.note_gap(self.state, self.choice);
+        self.build_state.note_gap(self.state, self.choice);
         self.choice = choice;
     }
 
     /// Makes the game of the finished choices, which are those of all states, or gives the first fault of the whole.
     pub fn finish(self, stated: Option<u32>) -> Result<Game, TraFault>
-        requires { IfBuilds self.progress IsReady }
+        requires { IfBuilds self.build_state IsReady }
         ensures { (n : ℕ) (transitions : List Transition) → self.state ≡ n → self.choice ≡ 0
-            → IsWhole n transitions self
+            → AreFinished n transitions self
             → AnswersOrWants IsOutOfMemory (λ g. g) result (transitions_game transitions n stated) }
     {
         let otherwise = stated_otherwise(stated, self.count);
-        match self.progress {
+        match self.build_state {
             BuildState::OutOfMemory => Err(TraFault::of_all(TraCause::OutOfMemory)),
             BuildState::Gap { state, choice } => {
                 Err(TraFault::of_all(TraCause::ChoiceGap { state, choice }))

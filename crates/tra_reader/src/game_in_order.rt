@@ -21,7 +21,7 @@ use transition_lines::{TraFault, Transition, place_at};
 #[derive(Drop)]
 pub struct GameInOrder {
     states: u32,
-    whole: FinishedChoices,
+    finished: FinishedChoices,
     parts: Vec<Part>,
     room: Vec<Edge>,
 }
@@ -49,15 +49,15 @@ impl GameInOrder {
         let Ok(builder) = GameBuilder::new(alloc) else {
             return Err(AllocError {});
         };
-        let whole = FinishedChoices {
+        let finished = FinishedChoices {
             state: 0,
             choice: 0,
             count: 0,
-            progress: BuildState::Builds(builder),
+            build_state: BuildState::Builds(builder),
         };
         Ok(GameInOrder {
             states,
-            whole,
+            finished,
             parts: Vec::new(alloc),
             room: Vec::new(alloc),
         })
@@ -67,7 +67,7 @@ impl GameInOrder {
     pub fn place(&self) -> u64
         ensures { result ≡ place_under_way self.now }
     {
-        place_at(self.whole.state, self.whole.choice)
+        place_at(self.finished.state, self.finished.choice)
     }
 
     /// Returns whether a transition was added.
@@ -87,7 +87,7 @@ impl GameInOrder {
             → HoldsInOrder self.new n (before ++ transition.now ∷ [])) }
         ensures states { self.new.states ≡ self.old.states }
     {
-        if transition.source != self.whole.state || transition.choice != self.whole.choice {
+        if transition.source != self.finished.state || transition.choice != self.finished.choice {
             return self.begin(alloc, transition);
         }
         self.parts.push(transition.part())?;
@@ -102,12 +102,12 @@ impl GameInOrder {
             → HoldsInOrder self.new n (before ++ transition.now ∷ [])) }
         ensures states { self.new.states ≡ self.old.states }
     {
-        self.whole
+        self.finished
             .end_before(alloc, &mut self.room, &self.parts, transition.source);
-        self.whole.go_to(transition.choice);
+        self.finished.go_to(transition.choice);
         self.parts.clear();
         if self.parts.push(transition.part()).is_err() {
-            self.whole.progress = BuildState::OutOfMemory;
+            self.finished.build_state = BuildState::OutOfMemory;
             return Err(AllocError {});
         }
         Ok(())
@@ -118,9 +118,9 @@ impl GameInOrder {
         ensures { (n : ℕ) (all : List Transition) → HoldsInOrder self n all
             → AnswersOrWants IsOutOfMemory (λ g. g) result (transitions_game all n stated) }
     {
-        let mut whole = self.whole;
+        let mut finished = self.finished;
         let mut room = self.room;
-        whole.end_before(alloc, &mut room, &self.parts, self.states);
-        whole.finish(stated)
+        finished.end_before(alloc, &mut room, &self.parts, self.states);
+        finished.finish(stated)
     }
 }

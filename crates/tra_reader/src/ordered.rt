@@ -37,13 +37,13 @@ impl OrderedLines {
 }
 
 impl LineReader for OrderedLines {
-    ghost use Rattle.tra_reader.specs.inside.Ordered.{OrderedRight};
+    ghost use Rattle.tra_reader.specs.inside.Ordered.{IsRightInOrder};
 
     type Made = Game;
 
     type Fault = Stop;
 
-    ghost answers = { λ reader number lines answer. OrderedRight reader.held number lines answer };
+    ghost answers = { λ reader number lines answer. IsRightInOrder reader.held number lines answer };
 
     fn take(&mut self, number: u32, line: &[u8]) -> Result<(), Stop> {
         match &mut self.held {

@@ -26,7 +26,7 @@ LeadsInside n distribution = All (λ e. e.to < n) distribution.edges
 
 -- 1. The finished choices are those of the first s states, and the first k of the next state.
 
--- No whole choice is missing, and `count` is their number. `crowded` is the first of the s states with too many
+-- No finished choice is missing, and `count` is their number. `crowded` is the first of the s states with too many
 -- choices, if there is one.
 pub record AreCounted (crowded : Option ℕ) (transitions : List Transition) (s k count : ℕ) : Type 0 where
   pub full : first_gap transitions s ≡ None
@@ -74,40 +74,42 @@ IsMade n transitions s k count (Gap i j) = HasGap transitions i j × (place_of i
 IsMade n transitions s k count OutOfMemory = Unit {0}
 
 -- This is the build state that these transitions between n states make with the choices before the one under way.
-abbrev pub IsWhole : ℕ → List Transition → FinishedChoices → Type 0
-IsWhole n transitions whole = IsMade n transitions whole.state whole.choice whole.count whole.progress
+abbrev pub AreFinished : ℕ → List Transition → FinishedChoices → Type 0
+AreFinished n transitions finished =
+    IsMade n transitions finished.state finished.choice finished.count finished.build_state
 
 -- This is the place behind the finished choices.
 abbrev pub place_behind : FinishedChoices → ℕ
-place_behind whole = place_of whole.state whole.choice
+place_behind finished = place_of finished.state finished.choice
 
 -- No transition has a place at or after `from` and before `to`.
 abbrev pub NoneBetween : List Transition → ℕ → ℕ → Type 0
 NoneBetween transitions from to = (s k : ℕ) → k < most_stated_choices → from ≤ place_of s k → place_of s k < to
     → transitions_of transitions s k ≡ []
 
--- All choices before this place are whole.
-pub record AreWholeBefore (n : ℕ) (transitions : List Transition) (place : ℕ) (whole : FinishedChoices) : Type 0 where
-  pub made : IsWhole n transitions whole
-  pub low : whole.choice ≤ most_stated_choices
-  pub none : NoneBetween transitions (place_behind whole) place
+-- All choices before this place are finished.
+pub record AreFinishedBefore (n : ℕ) (transitions : List Transition) (place : ℕ)
+    (finished : FinishedChoices) : Type 0 where
+  pub made : AreFinished n transitions finished
+  pub low : finished.choice ≤ most_stated_choices
+  pub none : NoneBetween transitions (place_behind finished) place
   pub within : All (IsWithin n) transitions
 
 -- 2. These definitions are about steps.
 
--- The step makes choice k of state s, which has these parts, whole.
+-- The step finishes choice k of state s, which has these parts.
 abbrev pub EndsChoice : List Part → ℕ → ℕ → BuildState → BuildState → Type 0
 EndsChoice parts s k old new = (n count : ℕ) (transitions : List Transition) → parts ≡ parts_of transitions s k
     → 0 < length parts → All (IsWithin n) transitions
     → IsMade n transitions s k count old → IsMade n transitions s (k + 1) (count + 1) new
 
--- The step makes state s, which has k choices, whole.
+-- The step finishes state s, which has k choices.
 abbrev pub EndsState : ℕ → ℕ → BuildState → BuildState → Type 0
 EndsState s k old new = (n count : ℕ) (transitions : List Transition) → s < n → k ≤ most_stated_choices
     → ((j : ℕ) → k ≤ j → transitions_of transitions s j ≡ []) → All (IsWithin n) transitions
     → IsMade n transitions s k count old → IsMade n transitions (s + 1) 0 count new
 
--- The step makes state s, which has too many choices, whole.
+-- The step finishes state s, which has too many choices.
 abbrev pub CrowdsState : ℕ → BuildState → BuildState → Type 0
 CrowdsState s old new = (k : ℕ) → most_choices < k → EndsState s k old new
 
@@ -117,28 +119,28 @@ NotesGap s k old new = (n count later : ℕ) (transitions : List Transition) →
     → transitions_of transitions s k ≡ [] → 0 < length (transitions_of transitions s later)
     → IsMade n transitions s k count old → IsMade n transitions s later count new
 
--- The step makes the choice under way, which has these parts, whole.
+-- The step finishes the choice under way, which has these parts.
 abbrev pub AddsChoice : List Part → FinishedChoices → FinishedChoices → Type 0
 AddsChoice parts old new = (n : ℕ) (transitions : List Transition) → parts ≡ parts_of transitions old.state old.choice
-    → 0 < length parts → All (IsWithin n) transitions → IsWhole n transitions old → IsWhole n transitions new
+    → 0 < length parts → All (IsWithin n) transitions → AreFinished n transitions old → AreFinished n transitions new
 
--- The step makes the states before `to` whole.
+-- The step finishes the states before `to`.
 abbrev pub EndsStates : ℕ → FinishedChoices → FinishedChoices → Type 0
 EndsStates to old new = (n place : ℕ) (transitions : List Transition) → to ≤ n → place_of to 0 ≤ place
-    → AreWholeBefore n transitions place old → AreWholeBefore n transitions place new
+    → AreFinishedBefore n transitions place old → AreFinishedBefore n transitions place new
 
--- The step makes all choices before state `to` whole. The parts are those of the choice under way.
+-- The step finishes all choices before state `to`. The parts are those of the choice under way.
 abbrev pub EndsBefore : List Part → ℕ → FinishedChoices → FinishedChoices → Type 0
 EndsBefore parts to old new = (n place : ℕ) (transitions : List Transition) → to ≤ n → place_of to 0 ≤ place
     → parts ≡ parts_of transitions old.state old.choice → All (IsWithin n) transitions
-    → NoneBetween transitions (place_behind old + 1) place → IsWhole n transitions old
-    → AreWholeBefore n transitions place new
+    → NoneBetween transitions (place_behind old + 1) place → AreFinished n transitions old
+    → AreFinishedBefore n transitions place new
 
 -- The step makes this choice, which has a transition, the one under way.
 abbrev pub GoesTo : ℕ → FinishedChoices → FinishedChoices → Type 0
 GoesTo choice old new = (n : ℕ) (transitions : List Transition)
     → 0 < length (transitions_of transitions old.state choice) → choice < most_stated_choices
-    → AreWholeBefore n transitions (place_of old.state choice) old → IsWhole n transitions new
+    → AreFinishedBefore n transitions (place_of old.state choice) old → AreFinished n transitions new
 
 -- The new draft has the choice with these parts behind the others.
 pub record IsBuilt (parts : List Part) (old new : Draft) : Type 0 where
@@ -156,10 +158,10 @@ abbrev pub ended : ℕ → ℕ → Draft → Draft
 ended s count draft = if count == 0 then with_state (with_choice draft (self_loop s)) else with_state draft
 
 -- This is the build state after a choice with this fault.
-abbrev pub progress_of : ℕ → ℕ → ChoiceFault → BuildState
-progress_of s k NoMemory = OutOfMemory
-progress_of s k (TooFine first second) = Faulty (fault_of_choice s k (TooFine first second))
-progress_of s k (BadSum sum denominator) = Faulty (fault_of_choice s k (BadSum sum denominator))
+abbrev pub after_fault : ℕ → ℕ → ChoiceFault → BuildState
+after_fault s k NoMemory = OutOfMemory
+after_fault s k (TooFine first second) = Faulty (fault_of_choice s k (TooFine first second))
+after_fault s k (BadSum sum denominator) = Faulty (fault_of_choice s k (BadSum sum denominator))
 
 -- The states of the draft make a game.
 pub record IsReady (draft : Draft) : Type 0 where
@@ -173,7 +175,7 @@ pub record IsReady (draft : Draft) : Type 0 where
 -- run out.
 abbrev pub IfBuilds : BuildState → (Draft → Type 0) → Type 0
 IfBuilds (Builds draft) P = P draft
-IfBuilds progress P = Unit {0}
+IfBuilds build_state P = Unit {0}
 
 -- The choices are as many as stated, or this is the fault.
 abbrev pub IsAsStated : Option ℕ → ℕ → Option TraFault → Type 0
@@ -187,12 +189,12 @@ IsAsStated stated read (Some fault) = (game : Result (List (List Distribution)) 
 -- under way.
 pub record Growing : Type 0 where
   pub states : ℕ
-  pub whole : FinishedChoices
+  pub finished : FinishedChoices
   pub parts : List Part
 
 -- This is the place of the choice under way.
 abbrev pub place_under_way : Growing → ℕ
-place_under_way game = place_behind game.whole
+place_under_way game = place_behind game.finished
 
 -- The last of these transitions has this place.
 pub record EndsAt (place : ℕ) (transitions : List Transition) : Type 0 where
@@ -213,10 +215,10 @@ pub record HoldsInOrder (game : Growing) (n : ℕ) (transitions : List Transitio
   -- The last transition belongs to the choice under way. If that choice has no part, no transition has come.
   pub begun : 0 < length game.parts → EndsAt (place_under_way game) transitions
   pub none : game.parts ≡ [] → transitions ≡ []
-  pub parts : game.parts ≡ parts_of transitions game.whole.state game.whole.choice
-  pub state_in : game.whole.state < n
-  pub choice_in : game.whole.choice < most_stated_choices
-  pub whole : IsWhole n transitions game.whole
+  pub parts : game.parts ≡ parts_of transitions game.finished.state game.finished.choice
+  pub state_in : game.finished.state < n
+  pub choice_in : game.finished.choice < most_stated_choices
+  pub finished : AreFinished n transitions game.finished
 
 -- The game holds a list of transitions, which may be empty.
 pub record HoldsSome (game : Growing) : Type 0 where

@@ -4,7 +4,7 @@ use Rattle.tra_reader.specs.inside.GrowingGames.{Growing, HoldsSome}
 
 -- A contract sees the number of states, the finished choices, and the parts of the choice under way.
 abbrev pub growing_of : Inside → Growing
-growing_of g = record { states = g.states; whole = g.whole; parts = g.parts.items }
+growing_of g = record { states = g.states; finished = g.finished; parts = g.parts.items }
 
 -- The game holds a list of transitions, which may be empty.
 abbrev pub IsGrowing : Inside → Type 0

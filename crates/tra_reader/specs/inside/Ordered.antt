@@ -37,8 +37,8 @@ HoldsOrdered held rows = AreInOrder held.header.states held.read held.game held.
 
 -- The answer is right if the text goes on with these lines, the first of which has this number. That a line is out of
 -- order says nothing of the text.
-abbrev pub OrderedRight : Option OrderedRows → ℕ → List (List ℕ) → Result (List (List Distribution)) Stop → Type 0
-OrderedRight = IsRight ordered_header HoldsOrdered text_fault
+abbrev pub IsRightInOrder : Option OrderedRows → ℕ → List (List ℕ) → Result (List (List Distribution)) Stop → Type 0
+IsRightInOrder = IsRight ordered_header HoldsOrdered text_fault
 
 -- The line is the header, behind which no row is held yet, or it has this fault, or memory ran out.
 abbrev pub BeginsOrdered : List ℕ → Result OrderedRows TraFault → Type 0

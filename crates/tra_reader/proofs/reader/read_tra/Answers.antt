@@ -4,7 +4,7 @@ use Rattle.tra_reader.specs.declared.stop.Stop.{Stop}
 use Rattle.transition_lines.specs.declared.fault.TraFault.{TraFault}
 use Rattle.transition_lines.specs.Text.{game_of, lines_game}
 use Rattle.tra_reader.specs.inside.Ordered.{ordered_header, HoldsOrdered, text_fault}
-use Rattle.tra_reader.specs.inside.AnyOrder.{any_header, HoldsAny}
+use Rattle.tra_reader.specs.inside.AnyOrder.{unordered_header, HoldsUnordered}
 use Rattle.tra_reader.proofs.Taking.{right_whole, given}
 use Rattle.tra_reader.proofs.reader.read_tra.Goals as goal
 
@@ -25,5 +25,5 @@ unfolding game_of
 returns-in-Err-OutOfOrder c =
     let lines = significant (lines_of c.args.bytes.now) in
     let again = c.read_lines-in-Err-OutOfOrder in
-    given again.result (lines_game lines) (right_whole any_header HoldsAny (λ (f : TraFault). Some f)
+    given again.result (lines_game lines) (right_whole unordered_header HoldsUnordered (λ (f : TraFault). Some f)
     c.new-in-Err-OutOfOrder.result.held lines again.result c.new-in-Err-OutOfOrder.ensures again.ensures)

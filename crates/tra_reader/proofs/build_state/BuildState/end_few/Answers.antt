@@ -3,7 +3,7 @@ use Rattle.game_model.specs.Draft.{Draft}
 use Rattle.tra_reader.specs.declared.build_state.BuildState.{BuildState}
 use Rattle.tra_reader.specs.declared.build_state.BuildState.TheVariants.{Builds}
 use Rattle.tra_reader.specs.inside.GrowingGames.{IsMade, ended}
-use Rattle.tra_reader.proofs.WholeSteps.{built_state, other_state}
+use Rattle.tra_reader.proofs.FinishedSteps.{built_state, other_state}
 use Rattle.tra_reader.proofs.build_state.BuildState.end_few.Goals as goal
 
 pub returns-else-is_err : goal.returns-else-is_err

@@ -1,7 +1,7 @@
 use Rattle.std.proofs.Common.{inl, inr, subst}
 use Rattle.tra_reader.specs.declared.build_state.BuildState.{BuildState}
 use Rattle.tra_reader.specs.inside.GrowingGames.{IsMade}
-use Rattle.tra_reader.proofs.WholeSteps.{crowded_state, later_state}
+use Rattle.tra_reader.proofs.FinishedSteps.{crowded_state, later_state}
 use Rattle.tra_reader.proofs.build_state.BuildState.note_crowded.Goals as goal
 
 pub returns-in-Builds : goal.returns-in-Builds

@@ -1,7 +1,7 @@
 use Rattle.std.proofs.Common.{◌+◌, sym, subst}
 use Rattle.tra_reader.specs.declared.build_state.BuildState.{BuildState}
 use Rattle.tra_reader.specs.inside.GrowingGames.{IsMade}
-use Rattle.tra_reader.proofs.WholeSteps.{built_choice, fault_choice, some_of_parts}
+use Rattle.tra_reader.proofs.FinishedSteps.{built_choice, fault_choice, some_of_parts}
 use Rattle.tra_reader.proofs.build_state.BuildState.push.Goals as goal
 
 pub returns-in-Err : goal.returns-in-Err
@@ -10,7 +10,7 @@ returns-in-Err c = λ n count ts are some within made.
     let k = c.args.choice in
     let P : BuildState → Type 0 = λ p. IsMade n ts s k count p in
     let Q : BuildState → Type 0 = λ p. IsMade n ts s (k + 1) (count + 1) p in
-    subst Q (sym c.fault_progress.ensures)
+    subst Q (sym c.after_fault.ensures)
     (fault_choice n ts s k count c.in-Builds.builder c.in-Err.fault c.args.parts.now are
     (some_of_parts ts s k c.args.parts.now are some) c.in-Err.ensures.err (subst P c.in-Builds.is made))
 

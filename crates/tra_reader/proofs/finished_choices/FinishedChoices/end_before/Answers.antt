@@ -2,7 +2,7 @@ use Rattle.std.proofs.Common.{rules, ◌≡◌, ◌<◌, [], length, sym, subst,
 use Rattle.std.proofs.lemmas.List.{nil_from_length}
 use Rattle.std.proofs.lemmas.Bool.Decides.{nat_tests}
 use Rattle.tra_reader.specs.declared.finished_choices.FinishedChoices.{FinishedChoices}
-use Rattle.tra_reader.specs.inside.GrowingGames.{AreWholeBefore}
+use Rattle.tra_reader.specs.inside.GrowingGames.{AreFinishedBefore}
 use Rattle.tra_reader.proofs.Gaps.{before_next, before_first}
 use Rattle.tra_reader.proofs.finished_choices.FinishedChoices.end_before.Goals as goal
 use Rattle.tra_reader.proofs.finished_choices.FinishedChoices.end_before.Goals.{then-not-is_empty, else-not-is_empty}
@@ -10,8 +10,8 @@ use Rattle.tra_reader.proofs.finished_choices.FinishedChoices.end_before.Goals.{
 pub returns-clause-made : goal.returns-clause-made
 returns-clause-made c = λ n place ts h le are within none made.
     let old = c.args.self.now in
-    let P : FinishedChoices → Type 0 = λ whole. AreWholeBefore n ts place whole in
-    let before : AreWholeBefore n ts place c.if-not-is_empty.self = elim c.if-not-is_empty.branch [
+    let P : FinishedChoices → Type 0 = λ finished. AreFinishedBefore n ts place finished in
+    let before : AreFinishedBefore n ts place c.if-not-is_empty.self = elim c.if-not-is_empty.branch [
       | then-not-is_empty w ↦
           let some : 0 < length c.args.parts.now = search rules in
           let is = w.end_choice.ensures in

@@ -4,7 +4,7 @@ use Rattle.transition_lines.specs.Choices.{part_of}
 use Rattle.transition_lines.specs.Order.{transition_place}
 use Rattle.tra_reader.specs.inside.GrowingGames.{Growing, place_under_way, EndsBefore, HoldsInOrder}
 use Rattle.tra_reader.specs.inside.OfGrowing.{growing_of}
-use Rattle.tra_reader.proofs.Growing.{holds_next, holds_spent, whole_next, within_held}
+use Rattle.tra_reader.proofs.Growing.{holds_next, holds_spent, finished_next, within_held}
 use Rattle.tra_reader.proofs.game_in_order.GameInOrder.begin.Goals as goal
 
 pub invariant_of-self : goal.invariant_of-self
@@ -32,7 +32,7 @@ invariant_of-self-else-is_err c =
     let within = within_held game _ held.n held.transitions t c.self.view_is c.requires.within is in
     let lt : place_under_way game < transition_place t =
     omega (arith, ap (λ (g : Growing). place_under_way g) c.self.view_is, c.requires.order) in
-    let P : List Part → Type 0 = λ ps. EndsBefore ps t.source c.self.inside.whole c.end_before.new.self in
+    let P : List Part → Type 0 = λ ps. EndsBefore ps t.source c.self.inside.finished c.end_before.new.self in
     let ends = subst P c.deref.ensures.value c.end_before.ensures.made in
     let parts : c.push.new.self.items ≡ part_of t ∷ [] = search rules in
     record {
@@ -40,7 +40,7 @@ invariant_of-self-else-is_err c =
       transitions = held.transitions ++ t ∷ [];
       holds = holds_next game _ held.n held.transitions t is within lt refl
           (c.go_to.ensures.state ∙ c.end_before.ensures.state) c.go_to.ensures.choice parts
-          (whole_next game held.n held.transitions t c.end_before.new.self c.go_to.new.self is within lt
+          (finished_next game held.n held.transitions t c.end_before.new.self c.go_to.new.self is within lt
           c.end_before.ensures.state ends c.go_to.ensures.made);
     }
 
@@ -53,10 +53,10 @@ returns-clause-holds c = λ n ts value.
     let within = within_held game _ n ts t c.self.view_is c.requires.within is in
     let lt : place_under_way game < transition_place t =
     omega (arith, ap (λ (g : Growing). place_under_way g) c.self.view_is, c.requires.order) in
-    let P : List Part → Type 0 = λ ps. EndsBefore ps t.source c.self.inside.whole c.end_before.new.self in
+    let P : List Part → Type 0 = λ ps. EndsBefore ps t.source c.self.inside.finished c.end_before.new.self in
     let ends = subst P c.deref.ensures.value c.end_before.ensures.made in
     let parts : c.push.new.self.items ≡ part_of t ∷ [] = search rules in
     holds_next game _ n ts t is within lt refl
     (c.go_to.ensures.state ∙ c.end_before.ensures.state) c.go_to.ensures.choice parts
-    (whole_next game n ts t c.end_before.new.self c.go_to.new.self is within lt c.end_before.ensures.state ends
+    (finished_next game n ts t c.end_before.new.self c.go_to.new.self is within lt c.end_before.ensures.state ends
     c.go_to.ensures.made)

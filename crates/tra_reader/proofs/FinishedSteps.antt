@@ -1,4 +1,4 @@
--- One choice more is whole, and one state more.
+-- One choice more is finished, and one state more.
 use Rattle.std.proofs.Common.{◌≡◌, ◌∙◌, ◌<◌, ◌≤◌, inl, inr, ℕ, zero, suc, ◌+◌, cond, List, [], ◌∷◌, ◌++◌, length}
 use Rattle.std.proofs.Common.{Option, None, Some, Ok, Err, refl, sym, ap, ap₂, subst, arith, add-one, add-zero}
 use Rattle.std.proofs.lemmas.Bool.{eq-eqb, ne_eqb, cases_lt, lt-ltb, le-ltb}
@@ -27,7 +27,7 @@ use Rattle.transition_lines.specs.Choices.{choices_said, state_said, states_said
 use Rattle.transition_lines.specs.Order.{IsWithin}
 use Rattle.tra_reader.specs.inside.GrowingGames.{LeadsInside}
 use Rattle.tra_reader.specs.inside.GrowingGames.{AreCounted, AreDrafted, HaveFault, IsMade, IsBuilt, IsChoiceFault}
-use Rattle.tra_reader.specs.inside.GrowingGames.{progress_of, ended}
+use Rattle.tra_reader.specs.inside.GrowingGames.{after_fault, ended}
 use Rattle.transition_lines.proofs.Ends.{end_is, none_missing, no_gap}
 use Rattle.tra_reader.proofs.Inside.{inside}
 
@@ -110,7 +110,7 @@ fault_here ts s k count done choices fault here are before first said = (
 -- the choice has a fault
 pub fault_choice : (n : ℕ) (ts : List Transition) (s k count : ℕ) (draft : Draft) (fault : ChoiceFault)
     (parts : List Part) → parts ≡ parts_of ts s k → 0 < length (transitions_of ts s k) → IsChoiceFault parts fault
-    → IsMade n ts s k count (Builds draft) → IsMade n ts s (k + 1) (count + 1) (progress_of s k fault)
+    → IsMade n ts s k count (Builds draft) → IsMade n ts s (k + 1) (count + 1) (after_fault s k fault)
 fault_choice n ts s k count draft NoMemory parts are here is made = tt
 fault_choice n ts s k count draft (TooFine a b) parts are here (inl memory) made = cc
 fault_choice n ts s k count draft (TooFine a b) parts are here (inr said) made = fault_here ts s k count draft.done
@@ -120,9 +120,9 @@ fault_choice n ts s k count draft (BadSum a b) parts are here (inr said) made = 
     draft.under_way (BadSum a b) here made.0 made.1.done made.1.under_way (ap choice_said (sym are) ∙ said)
 
 -- nothing is built
-pub other_choice : (n : ℕ) (ts : List Transition) (s k count : ℕ) (progress : BuildState)
-    → ((draft : Draft) → progress ≡ Builds draft → ⊥) → 0 < length (transitions_of ts s k)
-    → IsMade n ts s k count progress → IsMade n ts s (k + 1) (count + 1) progress
+pub other_choice : (n : ℕ) (ts : List Transition) (s k count : ℕ) (build_state : BuildState)
+    → ((draft : Draft) → build_state ≡ Builds draft → ⊥) → 0 < length (transitions_of ts s k)
+    → IsMade n ts s k count build_state → IsMade n ts s (k + 1) (count + 1) build_state
 other_choice n ts s k count (Builds draft) other here made = absurd (other draft refl)
 other_choice n ts s k count (Faulty fault) other here made =
     (counted_choice None ts s k count here made.0, fault_more ts s k fault made.1)
@@ -243,10 +243,10 @@ built_state n ts s k count draft h few none made =
     let end = end_here None ts s k count none made.0 in
     (counted_state None None ts s k count end (not_crowded s k few) made.0, ended_state n ts s k draft h end few made.1)
 
-pub other_state : (n : ℕ) (ts : List Transition) (s k count : ℕ) (progress : BuildState)
-    → ((draft : Draft) → progress ≡ Builds draft → ⊥) → k ≤ most_choices
-    → ((j : ℕ) → k ≤ j → transitions_of ts s j ≡ []) → IsMade n ts s k count progress
-    → IsMade n ts (s + 1) 0 count progress
+pub other_state : (n : ℕ) (ts : List Transition) (s k count : ℕ) (build_state : BuildState)
+    → ((draft : Draft) → build_state ≡ Builds draft → ⊥) → k ≤ most_choices
+    → ((j : ℕ) → k ≤ j → transitions_of ts s j ≡ []) → IsMade n ts s k count build_state
+    → IsMade n ts (s + 1) 0 count build_state
 other_state n ts s k count (Builds draft) other few none made = absurd (other draft refl)
 other_state n ts s k count (Faulty fault) other few none made =
     let end = end_here None ts s k count none made.0 in
@@ -263,10 +263,10 @@ crowded_state ts s k count many none are =
     ends_counted None (Some s) ts s k count none (ap (λ b. cond b (Some s) None) (lt-ltb most_choices k many)) are
 
 -- a state with too many choices behind one, or behind a gap
-pub later_state : (n : ℕ) (ts : List Transition) (s k count : ℕ) (progress : BuildState)
-    → ((draft : Draft) → progress ≡ Builds draft → ⊥) → ((fault : TraFault) → progress ≡ Faulty fault → ⊥)
-    → k ≤ most_stated_choices → ((j : ℕ) → k ≤ j → transitions_of ts s j ≡ []) → IsMade n ts s k count progress
-    → IsMade n ts (s + 1) 0 count progress
+pub later_state : (n : ℕ) (ts : List Transition) (s k count : ℕ) (build_state : BuildState)
+    → ((draft : Draft) → build_state ≡ Builds draft → ⊥) → ((fault : TraFault) → build_state ≡ Faulty fault → ⊥)
+    → k ≤ most_stated_choices → ((j : ℕ) → k ≤ j → transitions_of ts s j ≡ []) → IsMade n ts s k count build_state
+    → IsMade n ts (s + 1) 0 count build_state
 later_state n ts s k count (Builds draft) building faulty few none made = absurd (building draft refl)
 later_state n ts s k count (Faulty fault) building faulty few none made = absurd (faulty fault refl)
 later_state n ts s k count (Crowded i) building faulty few none made =

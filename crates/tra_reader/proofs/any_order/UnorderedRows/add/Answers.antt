@@ -6,7 +6,7 @@ use Rattle.transition_lines.specs.Answers.{row_place}
 use Rattle.transition_lines.proofs.Rows.{clashes_is}
 use Rattle.std.proofs.lemmas.List.Elements.{All-push}
 use Rattle.tra_reader.proofs.Steps.{transitions_push}
-use Rattle.tra_reader.proofs.any_order.AnyRows.add.Goals as goal
+use Rattle.tra_reader.proofs.any_order.UnorderedRows.add.Goals as goal
 
 pub returns-then-branch-clause-fault : goal.returns-then-branch-clause-fault
 returns-then-branch-clause-fault c = λ rows holds told is.
