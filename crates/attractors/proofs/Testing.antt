@@ -110,11 +110,13 @@ IsAttractorSearch-tested q excluded lists old members next_choice order order' a
       ordered = h.ordered;
       grew = h.grew;
       leads = λ s c among.
-          meets-more old members (choice_of q.game s c) larger (move-meets q lists old order s c are many ordered among);
+          let meets = move-meets q lists old order s c are many ordered among in
+          meets-more old members (choice_of q.game s c) larger meets;
       left = λ s l out within. record {
         greatest = λ is_side c lc free among.
+            let meets = move-meets q lists old order s c are many ordered among in
             let serve : serves excluded old (choice_of q.game s c) ≡ true =
-            serves-by excluded old (choice_of q.game s c) free (move-meets q lists old order s c are many ordered among) in
+            serves-by excluded old (choice_of q.game s c) free meets in
             let fails : serves excluded old (choice_of q.game s c) ≡ false =
             (tested s l out within).greatest is_side c lc in
             cc;
@@ -123,9 +125,9 @@ IsAttractorSearch-tested q excluded lists old members next_choice order order' a
           before = ((h.left s l out within).least is_side).before;
           still = λ free among.
               let c : ℕ = slice_index next_choice s in
+              let meets = move-meets q lists old order s c are many ordered among in
               let serve : serves excluded old (choice_of q.game s c) ≡ true =
-              serves-by excluded old (choice_of q.game s c) free
-              (move-meets q lists old order s c are many ordered among) in
+              serves-by excluded old (choice_of q.game s c) free meets in
               let fails : serves excluded old (choice_of q.game s c) ≡ false = (tested s l out within).least is_side in
               cc;
         };
