@@ -35,7 +35,7 @@ pub enum ChoiceFault {
 }
 
 /// Tells a proof which facts hold for every part. It does nothing.
-pub fn known_of_all(parts: &[Part])
+pub fn shares_are_fractions(parts: &[Part])
     ensures { All (λ part. IsFraction part.share) parts.now }
 {
     for part in parts {
@@ -152,7 +152,7 @@ fn fill(alloc: Global, edges: &mut Vec<Edge>, parts: &[Part]) -> Result<u128, Ch
     ensures said { AnswersOrWants IsOutOfMemory (with_total edges.new.items) result (choice_said parts.now) }
     ensures kept { IfOk result (λ total. IsDistribution (with_total edges.new.items total)) }
 {
-    known_of_all(parts);
+    shares_are_fractions(parts);
     let common = match common_denominator(parts) {
         Ok(common) => common,
         Err(fault) => return Err(fault),

@@ -17,6 +17,6 @@ mod gather;
 pub mod laws;
 mod limits;
 
-pub use choice::{ChoiceFault, Part, fill_choice, known_of_all, make_choice};
+pub use choice::{ChoiceFault, Part, fill_choice, make_choice, shares_are_fractions};
 pub use fractions::{Frac, NumberFault, compare, read_number};
 pub use limits::{MOST_PARTS, TOLERANCE};

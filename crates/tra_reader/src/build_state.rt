@@ -6,7 +6,7 @@ ghost use Rattle.transition_lines.specs.Choices.{self_loop};
 ghost use Rattle.tra_reader.specs.inside.GrowingGames.{IsBuilt, IsChoiceFault, EndsChoice, EndsState, CrowdsState, NotesGap, ended, after_fault};
 
 use distributions::laws::said_is_denoted;
-use distributions::{ChoiceFault, Part, fill_choice, known_of_all};
+use distributions::{ChoiceFault, Part, fill_choice, shares_are_fractions};
 use game_model::{Choice, Edge, GameBuilder, MOST_CHOICES};
 use std::alloc::{AllocError, Global};
 use transition_lines::{MOST_LINES, TraFault};
@@ -104,7 +104,7 @@ fn build(
     if parts.len() > MOST_LINES as usize {
         return Err(ChoiceFault::OutOfMemory);
     }
-    known_of_all(parts);
+    shares_are_fractions(parts);
     said_is_denoted();
     let total = fill_choice(alloc, room, parts)?;
     if builder.push_edges(total, room).is_err() {

@@ -13,7 +13,7 @@ use Rattle.distributions.proofs.choice.fill.Goals as goal
 
 pub weigh-requires-clause-divided : goal.weigh-requires-clause-divided
 weigh-requires-clause-divided c =
-    (denominator-is c.args.parts.now c.in-Ok.common c.known_of_all.ensures (sym c.in-Ok.ensures.value)).multiple
+    (denominator-is c.args.parts.now c.in-Ok.common c.shares_are_fractions.ensures (sym c.in-Ok.ensures.value)).multiple
 
 pub gather-requires : goal.gather-requires
 gather-requires c =

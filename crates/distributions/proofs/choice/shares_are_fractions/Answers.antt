@@ -1,7 +1,7 @@
 use Rattle.std.proofs.lemmas.List.Elements.{AllWithin-more, at_read}
 use Rattle.fractions.specs.Fraction.{IsFraction}
 use Rattle.distributions.specs.declared.choice.Part.{Part}
-use Rattle.distributions.proofs.choice.known_of_all.Goals as goal
+use Rattle.distributions.proofs.choice.shares_are_fractions.Goals as goal
 
 pub loop-part-preserved : goal.loop-part-preserved
 loop-part-preserved c =
