@@ -59,13 +59,13 @@ pub fn round_component(
     if nodes <= MOST_BOLD && try_values(alloc, input, values, policy, planned, table, bold)? {
         return Ok(true);
     }
-    let slope = try_slope(alloc, input, values, policy, planned, table)?;
-    if slope == Slope::Held {
+    let moved = try_moved(alloc, input, values, policy, planned, table)?;
+    if moved == Moved::Held {
         return Ok(true);
     }
     let stopped = entries_of(alloc, input, table)?;
     let is_held = try_costs(alloc, input, values, policy, planned, table)?;
-    if slope == Slope::Failed {
+    if moved == Moved::Failed {
         if !is_held {
             give_up(input, table);
         }
@@ -82,7 +82,7 @@ pub fn round_component(
 /// A try of values that are moved away failed, or its entries hold. Some of these may have stopped at the end of their
 /// room.
 #[derive(Clone, Copy, PartialEq, Eq)]
-enum Slope {
+enum Moved {
     Failed,
     Held,
     HeldPastStops,
@@ -149,14 +149,14 @@ fn full_effort(input: &Input<'_, '_>) -> Effort {
 }
 
 /// Tries values that are moved away by some units for each move that the policy is expected to make.
-fn try_slope(
+fn try_moved(
     alloc: Global,
     input: &Input<'_, '_>,
     values: &[f64],
     policy: &[u32],
     planned: &[u32],
     table: &mut UnitTable,
-) -> Result<Slope, OutOfMemory>
+) -> Result<Moved, OutOfMemory>
     requires values { length values.now ≡ nodes_of input.now.game.now }
     requires policy { length policy.now ≡ nodes_of input.now.game.now }
     requires planned { length planned.now ≡ states input.now.question.now }
@@ -165,7 +165,7 @@ fn try_slope(
 {
     let rooms = rooms_of(alloc, input, values)?;
     let Some(slide) = find_slide(alloc, input.game, policy, SLOPE, &rooms)? else {
-        return Ok(Slope::Failed);
+        return Ok(Moved::Failed);
     };
     let sign = match input.bound {
         Bound::Lower => -1.0,
@@ -176,7 +176,7 @@ fn try_slope(
     let far = between(alloc, &least, &slide.moves, slope)?;
     let effort = full_effort(input);
     if !try_values(alloc, input, &far, policy, planned, table, effort)? {
-        return Ok(Slope::Failed);
+        return Ok(Moved::Failed);
     }
     narrow(
         alloc,
@@ -189,9 +189,9 @@ fn try_slope(
         table,
     )?;
     Ok(if widest(&slide.drops) > 0.0 {
-        Slope::HeldPastStops
+        Moved::HeldPastStops
     } else {
-        Slope::Held
+        Moved::Held
     })
 }
 

@@ -12,15 +12,15 @@ use std::collections::VecDeque;
 
 /// The marks show the places in a component whose entries may no longer hold. Those that wait are listed, each once.
 #[derive(Drop)]
-struct DirtySet {
+struct Worklist {
     waiting: VecDeque<u32>,
     marks: Vec<bool>,
 }
 
-impl DirtySet {
+impl Worklist {
     /// Marks this many places, none of which waits, because all are looked at first, one after another.
-    fn new(alloc: Global, members: usize) -> Result<DirtySet, OutOfMemory> {
-        Ok(DirtySet {
+    fn new(alloc: Global, members: usize) -> Result<Worklist, OutOfMemory> {
+        Ok(Worklist {
             waiting: VecDeque::new(alloc),
             marks: vec![in alloc; true; members]?,
         })
@@ -60,29 +60,29 @@ pub(crate) fn repair(
     ensures { length table.new ≡ length table.old }
 {
     let members = input.components.members(input.component);
-    let mut dirty = DirtySet::new(alloc, members.len())?;
+    let mut worklist = Worklist::new(alloc, members.len())?;
     for place in 0..members.len() {
-        dirty.unmark(place);
-        mend_state(input, planned, table, &mut dirty, members[place])?;
+        worklist.unmark(place);
+        repair_state(input, planned, table, &mut worklist, members[place])?;
     }
     for _ in 0..most {
-        let Some(place) = dirty.waiting.pop_front() else {
+        let Some(place) = worklist.waiting.pop_front() else {
             return Ok(true);
         };
-        dirty.unmark(place as usize);
+        worklist.unmark(place as usize);
         if let Some(state) = members.get(place as usize).copied() {
-            mend_state(input, planned, table, &mut dirty, state)?;
+            repair_state(input, planned, table, &mut worklist, state)?;
         }
     }
-    Ok(dirty.waiting.is_empty())
+    Ok(worklist.waiting.is_empty())
 }
 
 /// Takes an exact step at a state. If its entry moves, the states that lead to it wait.
-fn mend_state(
+fn repair_state(
     input: &Input<'_, '_>,
     planned: &[u32],
     table: &mut UnitTable,
-    dirty: &mut DirtySet,
+    worklist: &mut Worklist,
     state: u32,
 ) -> Result<(), OutOfMemory>
     requires planned { length planned.now ≡ states input.now.question.now }
@@ -98,13 +98,13 @@ fn mend_state(
         return Ok(());
     }
     table.set(state, held);
-    add_predecessors(input, dirty, state)
+    add_predecessors(input, worklist, state)
 }
 
 /// Lets the states of the component that lead to a state wait.
 fn add_predecessors(
     input: &Input<'_, '_>,
-    dirty: &mut DirtySet,
+    worklist: &mut Worklist,
     state: u32,
 ) -> Result<(), OutOfMemory>
     requires { state < states input.now.question.now }
@@ -114,7 +114,7 @@ fn add_predecessors(
         if before < input.question.game().states()
             && input.components.component_of(before) == input.component
         {
-            dirty.add(input.components.place_of(before))?;
+            worklist.add(input.components.place_of(before))?;
         }
     }
     Ok(())
