@@ -17,8 +17,8 @@
 
 mod answer;
 mod causes;
-mod known;
 pub mod laws;
+mod printable;
 mod refusal;
 mod status;
 

@@ -1,4 +1,4 @@
-//! This module has what is true of every refusal, because its types bound its numbers.
+//! This module shows that the numbers of every refusal can be printed, because their types bound them.
 
 ghost use Rattle.output.specs.Printable.{IsPrintable, ChoicePrintable, TraPrintable, LabPrintable, CertificatePrintable};
 
@@ -8,23 +8,23 @@ use distributions::ChoiceFault;
 use label_lines::LabCause;
 use transition_lines::TraCause;
 
-fn known_of_number(number: u32)
+fn number_is_printable(number: u32)
     ensures { IsPrintable number }
 {}
 
-fn known_of_choice(fault: ChoiceFault)
+fn choice_fault_is_printable(fault: ChoiceFault)
     ensures { ChoicePrintable fault }
 {}
 
-fn known_of_tra(cause: TraCause)
+fn tra_cause_is_printable(cause: TraCause)
     ensures { TraPrintable cause }
 {}
 
-fn known_of_lab(cause: LabCause)
+fn lab_cause_is_printable(cause: LabCause)
     ensures { LabPrintable cause }
 {}
 
-fn known_of_certificate(fault: AuditFault)
+fn audit_fault_is_printable(fault: AuditFault)
     ensures { CertificatePrintable fault }
 {}
 
@@ -37,16 +37,16 @@ impl Refusal {
     {
         match self {
             Refusal::OfTra(fault) => {
-                known_of_number(fault.line);
-                known_of_tra(fault.cause);
+                number_is_printable(fault.line);
+                tra_cause_is_printable(fault.cause);
             }
             Refusal::OfLab(fault) | Refusal::OfOwn(fault) => {
-                known_of_number(fault.line);
-                known_of_lab(fault.cause);
+                number_is_printable(fault.line);
+                lab_cause_is_printable(fault.cause);
             }
-            Refusal::OfFormula(fault) => known_of_number(fault.place),
-            Refusal::OfCertificate(fault) => known_of_certificate(*fault),
-            Refusal::OfValues(fault) => known_of_number(fault.line),
+            Refusal::OfFormula(fault) => number_is_printable(fault.place),
+            Refusal::OfCertificate(fault) => audit_fault_is_printable(*fault),
+            Refusal::OfValues(fault) => number_is_printable(fault.line),
             Refusal::OfQuestion(_) | Refusal::WrongKind | Refusal::TooLong(_) => {}
         }
     }
