@@ -21,11 +21,11 @@ mod lower_guesses;
 #[cfg(test)]
 mod nested_formulas;
 #[cfg(test)]
+mod parallel_guesses;
+#[cfg(test)]
 mod ranks;
 #[cfg(test)]
 mod sets;
-#[cfg(test)]
-mod teams;
 #[cfg(test)]
 mod traps;
 #[cfg(test)]

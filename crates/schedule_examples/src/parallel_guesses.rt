@@ -18,7 +18,7 @@ use upper_guess::Alone;
 use zero_sets::zero_set;
 
 // Several numbers of workers make the guess that one worker makes, by as many up steps.
-fn teams_agree<R: Threads + Sync>(
+fn guesses_agree<R: Threads + Sync>(
     rt: &R,
     alloc: Global,
     question: &Question<'_>,
@@ -47,7 +47,7 @@ fn teams_agree<R: Threads + Sync>(
 }
 
 // They agree over a game of one player, whose goal is this state.
-fn teams_agree_over<R: Threads + Sync>(
+fn guesses_agree_over<R: Threads + Sync>(
     rt: &R,
     alloc: Global,
     game: Game,
@@ -59,37 +59,37 @@ fn teams_agree_over<R: Threads + Sync>(
     requires units { All (λ v. v ≤ unit) lower.now }
 {
     let question = question_of(alloc, &game, side, goal)?;
-    teams_agree(rt, alloc, &question, lower)
+    guesses_agree(rt, alloc, &question, lower)
 }
 
 #[test]
-fn teams_guess_what_one_worker_does(rt: HostRuntime) -> Result<(), Fail> {
+fn several_workers_guess_what_one_does(rt: HostRuntime) -> Result<(), Fail> {
     let alloc = rt.alloc();
     let game = chain(alloc, 8)?;
     let lower = [0, 0, 0, 0, 0, 0, 0, UNIT];
-    teams_agree_over(&rt, alloc, game, Side::Max, 7, &lower)?;
+    guesses_agree_over(&rt, alloc, game, Side::Max, 7, &lower)?;
     let game = four_states(alloc)?;
-    teams_agree_over(&rt, alloc, game, Side::Min, 2, &[0, 0, UNIT, 0])
+    guesses_agree_over(&rt, alloc, game, Side::Min, 2, &[0, 0, UNIT, 0])
 }
 
 // They agree over the table that is 0 everywhere.
-fn teams_agree_from_nothing<R: Threads + Sync>(
+fn guesses_agree_from_nothing<R: Threads + Sync>(
     rt: &R,
     alloc: Global,
     question: &Question<'_>,
 ) -> Result<(), Fail> {
     question.invariant();
     let lower = vec![in alloc; 0; question.game().states() as usize]?;
-    teams_agree(rt, alloc, question, &lower)
+    guesses_agree(rt, alloc, question, &lower)
 }
 
 #[test]
-fn teams_guess_the_same_over_a_drawn_game(rt: HostRuntime) -> Result<(), Fail> {
-    teams_agree_over_drawn(&rt, rt.alloc(), 7, 200)
+fn several_workers_guess_the_same_over_a_drawn_game(rt: HostRuntime) -> Result<(), Fail> {
+    guesses_agree_over_drawn(&rt, rt.alloc(), 7, 200)
 }
 
 // They agree over a drawn game.
-fn teams_agree_over_drawn<R: Threads + Sync>(
+fn guesses_agree_over_drawn<R: Threads + Sync>(
     rt: &R,
     alloc: Global,
     seed: u32,
@@ -100,16 +100,16 @@ fn teams_agree_over_drawn<R: Threads + Sync>(
 {
     let drawn = draw_game(alloc, seed, states)?;
     let question = drawn.question(alloc)?;
-    teams_agree_from_nothing(rt, alloc, &question)
+    guesses_agree_from_nothing(rt, alloc, &question)
 }
 
 /// A table of this many states is too large to stay near the processor.
 const MANY: u32 = 300_000;
 
 #[test]
-fn teams_guess_the_same_over_many_states(rt: HostRuntime) -> Result<(), Fail> {
+fn several_workers_guess_the_same_over_many_states(rt: HostRuntime) -> Result<(), Fail> {
     let alloc = rt.alloc();
     let game = chain(alloc, MANY)?;
     let question = question_of(alloc, &game, Side::Max, MANY - 1)?;
-    teams_agree_from_nothing(&rt, alloc, &question)
+    guesses_agree_from_nothing(&rt, alloc, &question)
 }
