@@ -4,6 +4,7 @@ use Rattle.std.specs.Prelude.{slice_index_or}
 use Rattle.std.proofs.lemmas.Bool.{both_ways, cases_order}
 use Rattle.game_model.specs.Game.{Distribution, choice_of, no_edge}
 use Rattle.game_model.specs.Query.{is_goal}
+use Rattle.fixed_bellman.proofs.Firsts.{first-one}
 use Rattle.expected_rewards.specs.Tables.{is_finite, StaysFinite, LeadsAway}
 use Rattle.reward_check.specs.declared.check.RewardCause.{RewardCause}
 use Rattle.reward_check.specs.declared.parts.Part.{Part}
@@ -12,16 +13,6 @@ use Rattle.reward_check.specs.Certificates.{Certificate}
 use Rattle.reward_check.specs.Parts.{HasZeros, IsRight, IsPassedAt}
 use Rattle.reward_check.specs.Faults.{IsLackOf, IsPlanless, IsFirstWrong, IsFirstUnpassed, IsFirstGoalFault, place_of}
 use Rattle.reward_check.specs.Faults.{IsPartFault, IsRewardFault}
-
--- one number is the first
-first-one : (P : ℕ → Type 0) (s t : ℕ) → ¬ P s → ¬ P t → ((r : ℕ) → r < s → P r) → ((r : ℕ) → r < t → P r) → s ≡ t
-first-one P s t here there before before' = elim (cases_order s t) [
-  | inl same ↦ same
-  | inr apart ↦ elim apart [
-    | inl less ↦ absurd (here (before' s less))
-    | inr more ↦ absurd (there (before t more))
-  ]
-]
 
 -- a choice does not stay with the marked states and leave them
 pub stays-away : (marks : List Bool) (m : Distribution) → StaysFinite marks m → ¬ LeadsAway marks m
