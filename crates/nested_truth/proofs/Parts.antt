@@ -3,7 +3,7 @@ use Rattle.std.proofs.Common.{◌≡◌, ◌∙◌, ◌+◌, ℕ, Bool, true, fa
 use Rattle.std.specs.Bool.{if◌then◌else◌}
 use Rattle.formula_reader.specs.Formula.{State, True, False, And, Or, Implies}
 use Rattle.nested_truth.specs.declared.judging.Judged.{Judged}
-use Rattle.nested_truth.specs.declared.known.KnownSets.{KnownSets}
+use Rattle.nested_truth.specs.declared.known_sets.KnownSets.{KnownSets}
 use Rattle.formula_sets.specs.Posing.{Model}
 use Rattle.formula_truth.specs.declared.way.Way.{Way}
 use Rattle.formula_truth.specs.Truth.{states}

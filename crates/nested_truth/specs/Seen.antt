@@ -6,7 +6,7 @@ use Rattle.formula_reader.specs.Formula.{State, formulas_in}
 use Rattle.nested_truth.specs.declared.answer.Nested.{Nested}
 use Rattle.nested_truth.specs.declared.bounds.Bounds.{Bounds}
 use Rattle.nested_truth.specs.declared.judging.Judged.{Judged}
-use Rattle.nested_truth.specs.declared.known.KnownSets.{KnownSets}
+use Rattle.nested_truth.specs.declared.known_sets.KnownSets.{KnownSets}
 use Rattle.nested_truth.specs.declared.setting.Setting.{Setting}
 use Rattle.formula_sets.specs.Posing.{Model}
 use Rattle.formula_truth.specs.declared.way.Way.{Way}

@@ -5,7 +5,7 @@ ghost use Rattle.formula_truth.specs.ThreeValued.{judgement, undecided_at};
 ghost use Rattle.nested_truth.specs.Seen.{AreAlike, IsBand, band_in, seen};
 
 use crate::bounds::Bounds;
-use crate::known::KnownSets;
+use crate::known_sets::KnownSets;
 use formula_reader::Bound;
 use std::alloc::{AllocError, Global};
 use verdicts::settle;

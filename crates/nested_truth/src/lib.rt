@@ -14,7 +14,7 @@ mod answer;
 mod answering;
 mod bounds;
 mod judging;
-mod known;
+mod known_sets;
 pub mod laws;
 mod operators;
 mod questions;

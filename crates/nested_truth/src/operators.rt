@@ -9,7 +9,7 @@ ghost use Rattle.nested_truth.specs.Seen.{IsBand, band_in, model_of, seen};
 
 use crate::answering::answer_both;
 use crate::bounds::Bounds;
-use crate::known::KnownSets;
+use crate::known_sets::KnownSets;
 use crate::questions::Questions;
 use crate::setting::Setting;
 use crate::sweeps::{next_sweep, sweep};

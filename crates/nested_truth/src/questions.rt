@@ -5,7 +5,7 @@ ghost use Rattle.game_model.specs.Query.{states};
 ghost use Rattle.formula_reader.specs.Formula.{tree_of};
 ghost use Rattle.formula_sets.specs.Posing.{at_states, next_question_of, question_with};
 
-use crate::known::{KnownSets, are_equal};
+use crate::known_sets::{KnownSets, are_equal};
 use crate::setting::Setting;
 use formula_reader::Formula;
 use formula_sets::{same_marks, sides_of};

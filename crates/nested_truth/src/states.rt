@@ -7,7 +7,7 @@ ghost use Rattle.rpatl_syntax.specs.Spellable.{HasParts};
 ghost use Rattle.nested_truth.specs.Seen.{IsJudged, model_of};
 
 use crate::judging::{Judged, judged_by};
-use crate::known::KnownSets;
+use crate::known_sets::KnownSets;
 use crate::operators::bounds_of;
 use crate::setting::Setting;
 use formula_reader::{Formula, StateFormula};

@@ -12,7 +12,7 @@ ghost use Rattle.formula_truth.specs.InnerRuns.{AreSwept, units_at};
 ghost use Rattle.nested_truth.specs.Seen.{IsBand, band_in, high_or, seen};
 
 use crate::bounds::Bounds;
-use crate::known::{KnownSets, are_equal};
+use crate::known_sets::{KnownSets, are_equal};
 use crate::questions::{Questions, next_question};
 use crate::setting::Setting;
 use bounded_rounds::{Sweep, bounded, bounded_values};

@@ -1,7 +1,7 @@
 use Rattle.std.proofs.Common.{sym, false}
 use Rattle.label_lines.specs.Labels.{holds_at}
 use Rattle.nested_truth.proofs.Tables.{filled-length, filled-at}
-use Rattle.nested_truth.proofs.known.KnownSets.of_label.Goals as goal
+use Rattle.nested_truth.proofs.known_sets.KnownSets.of_label.Goals as goal
 
 pub returns-clause-states : goal.returns-clause-states
 returns-clause-states c = filled-length (holds_at c.args.labels.now c.args.name.now) c.args.states
