@@ -3,6 +3,7 @@ use Rattle.std.proofs.Common.{◌≡◌, ◌∙◌, ◌+◌, ◌⊎◌, inl, inr
 use Rattle.std.proofs.Common.{Some, None, Result, Ok, Err, refl, ap, sym, subst, arith}
 use Rattle.std.specs.Prelude.{bytes_eq}
 use Rattle.std.proofs.lemmas.Slice.Eq.{bytes_eq-Decides}
+pub use Rattle.numerals.proofs.Grammar.{chosen}
 use Rattle.formula_tokens.specs.declared.fault.FormulaFault.{FormulaFault}
 use Rattle.formula_tokens.specs.declared.fault.FormulaCause.TheVariants.{Unexpected}
 use Rattle.formula_tokens.specs.Fault.{◌>>=◌}
@@ -55,11 +56,6 @@ spans_count (u ∷ us) ts rest s =
 
 pub same_bytes : (a b : List ℕ) → bytes_eq a b ≡ true → a ≡ b
 same_bytes a b e = (bytes_eq-Decides a b).0 e
-
--- which way a test went
-pub chosen : {X : Type 0} (b : Bool) (x y z : X) → cond b x y ≡ z → ((b ≡ true) × (x ≡ z)) ⊎ ((b ≡ false) × (y ≡ z))
-chosen true x y z e = inl (refl, e)
-chosen false x y z e = inr (refl, e)
 
 -- where both steps are Ok
 pub record Both_ok {X Y : Type 0} (r : Result X FormulaFault) (f : X → Result Y FormulaFault) (y : Y) : Type 0 where
