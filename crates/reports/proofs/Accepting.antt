@@ -63,7 +63,7 @@ pub solved-accepted : AreReadBack → AreCertificates
     → HasPlainParts (answered f) → (r : IsSolved q initial f asked text status) → IsAccepted q text r.plan
 solved-accepted read_back certificates q initial f asked text status planned parts r =
     output-accepted read_back certificates q initial f Solved asked r.plan text planned parts r.written
-    r.limits r.lists r.passes
+    r.limits r.is_plan.lists r.is_plan.passes
 
 -- 2. Of the paths.
 

@@ -53,11 +53,8 @@ module _ (q : Query) (posed : IsQuery q) (plan : Plan) (is_plan : IsSolvedPlan q
   solved text ends initial f asked inside left_open (Ok answer) written ended = record {
     posed = posed;
     plan = plan;
-    lists = is_plan.lists;
+    is_plan = is_plan;
     told = told q posed f plan is_plan.sound Solved initial _ inside ended;
-    passes = is_plan.passes;
-    sure = is_plan.sure;
-    zero = is_plan.zero;
     written = written;
     limits = printed-in_limits q plan initial Solved printable tt inside asked f;
     left_open = All-map (λ line. line.verdict ≡ Undecided → LeavesOpen (answered f).bound
