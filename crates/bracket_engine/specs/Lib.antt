@@ -1,7 +1,7 @@
 pub mod Limits
 pub mod Lower
 pub mod Bracket
-pub mod Found
+pub mod BracketOfRun
 pub mod Choices
 pub mod Stop
 pub mod inside

@@ -6,7 +6,7 @@ ghost use Rattle.game_model.specs.Dual.{IsZeroSet};
 ghost use Rattle.predecessors.specs.Lists.{ArePredecessors};
 ghost use Rattle.round_workers.specs.Share.{most_workers};
 ghost use Rattle.bracket_engine.specs.Limits.{most_rounds};
-ghost use Rattle.bracket_engine.specs.Found.{IsBracketOfRun};
+ghost use Rattle.bracket_engine.specs.BracketOfRun.{IsBracketOfRun};
 
 use crate::bounds::Bracket;
 use crate::run::bracket_over;

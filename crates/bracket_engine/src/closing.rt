@@ -6,7 +6,7 @@ ghost use Rattle.game_model.specs.Limits.{unit};
 ghost use Rattle.game_model.specs.Dual.{swapped, IsZeroSet};
 ghost use Rattle.game_model.specs.Rounded.{IsSettled};
 ghost use Rattle.verdicts.specs.Stop.{bound_of};
-ghost use Rattle.bracket_engine.specs.Found.{IsBracketOfRun};
+ghost use Rattle.bracket_engine.specs.BracketOfRun.{IsBracketOfRun};
 ghost use Rattle.bracket_engine.specs.inside.Race.{AreOver};
 
 use crate::base::Base;

@@ -7,7 +7,7 @@ ghost use Rattle.predecessors.specs.Lists.{ArePredecessors};
 ghost use Rattle.round_workers.specs.Share.{most_workers};
 ghost use Rattle.verdicts.specs.Stop.{bound_of, IsStopRule};
 ghost use Rattle.bracket_engine.specs.Limits.{most_rounds};
-ghost use Rattle.bracket_engine.specs.Found.{IsBracketOfRun};
+ghost use Rattle.bracket_engine.specs.BracketOfRun.{IsBracketOfRun};
 
 use crate::bounds::Bracket;
 use crate::closing::bracket_of;

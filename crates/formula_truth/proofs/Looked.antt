@@ -21,7 +21,7 @@ use Rattle.formula_reader.specs.declared.formula.Bound.{Bound}
 use Rattle.formula_reader.specs.declared.formula.Bound.TheVariants.{AtLeast, Above, AtMost, Below, AskMax, AskMin}
 use Rattle.verdicts.specs.Verdict.{verdict_of, is_settling, is_asking}
 use Rattle.bracket_engine.specs.declared.bounds.Bracket.{Bracket}
-use Rattle.bracket_engine.specs.Found.{IsBracketOfRun}
+use Rattle.bracket_engine.specs.BracketOfRun.{IsBracketOfRun}
 use Rattle.bracket_engine.specs.Stop.{AreSettledAt}
 use Rattle.formula_truth.proofs.Sharper.{test_of, test-more, settled-test}
 

@@ -22,7 +22,7 @@ use Rattle.bounded_rounds.proofs.Bracketed.{IsBracketed-opening, IsBracketed-nex
 use Rattle.plan_text.specs.declared.plan.Plan.{Plan}
 use Rattle.bracket_engine.specs.declared.bounds.Bracket.{Bracket}
 use Rattle.bracket_engine.specs.Bracket.{complements_of}
-use Rattle.bracket_engine.specs.Found.{IsBracketOfRun}
+use Rattle.bracket_engine.specs.BracketOfRun.{IsBracketOfRun}
 use Rattle.bracket_engine.proofs.Opening.{left-open}
 use Rattle.verdicts.specs.declared.report.How.{How}
 use Rattle.verdicts.specs.declared.verdict.Verdict.TheVariants.{Undecided}

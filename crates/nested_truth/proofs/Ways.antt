@@ -9,7 +9,7 @@ use Rattle.game_model.specs.Dual.{IsZeroSet}
 use Rattle.formula_reader.specs.declared.formula.Bound.{Bound}
 use Rattle.bounded_rounds.specs.Steps.{IsSweep}
 use Rattle.bracket_engine.specs.declared.bounds.Bracket.{Bracket}
-use Rattle.bracket_engine.specs.Found.{IsBracketOfRun}
+use Rattle.bracket_engine.specs.BracketOfRun.{IsBracketOfRun}
 use Rattle.plan_text.specs.declared.plan.Plan.{Plan}
 use Rattle.solved_plans.specs.Plans.{IsSolvedPlan}
 use Rattle.verdicts.specs.declared.report.How.{How}

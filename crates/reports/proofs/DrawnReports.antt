@@ -14,7 +14,7 @@ use Rattle.formula_reader.specs.declared.formula.Bound.TheVariants.{AskMax}
 use Rattle.verdicts.specs.Verdict.{is_asking}
 use Rattle.bracket_engine.specs.declared.bounds.Bracket.{Bracket}
 use Rattle.bracket_engine.specs.Bracket.{IsBracket}
-use Rattle.bracket_engine.specs.Found.{IsBracketOfRun}
+use Rattle.bracket_engine.specs.BracketOfRun.{IsBracketOfRun}
 use Rattle.bracket_engine.specs.Lower.{IsLowerTable}
 use Rattle.bracket_engine.specs.Stop.{AreSettledAt}
 use Rattle.output.specs.declared.status.Status.{Status}

@@ -24,7 +24,7 @@ use Rattle.formula_reader.specs.declared.formula.PathKind.{PathKind}
 use Rattle.formula_reader.specs.declared.formula.PathKind.TheVariants.{Until, Within, Next, Always}
 use Rattle.rpatl_syntax.specs.Dual.{IsAtMostOne, dual_bound, answered_by, answered}
 use Rattle.output.specs.Printed.{is_mirrored, status_of, output_of}
-use Rattle.bracket_engine.specs.Found.{IsBracketOfRun}
+use Rattle.bracket_engine.specs.BracketOfRun.{IsBracketOfRun}
 use Rattle.bracket_engine.proofs.Opening.{left-open}
 use Rattle.reports.specs.Reports.{IsPrintedPlan, IsBracketReport}
 use Rattle.reports.proofs.Limits.{plan_line}

@@ -10,7 +10,7 @@ use Rattle.plan_text.specs.Entries.{HasStates, greatest_rank}
 use Rattle.certificate_audit.specs.Accepted.{Passes}
 use Rattle.bracket_engine.specs.declared.bounds.Bracket.{Bracket}
 use Rattle.bracket_engine.specs.Choices.{AreChoices}
-use Rattle.bracket_engine.specs.Found.{IsBracketOfRun}
+use Rattle.bracket_engine.specs.BracketOfRun.{IsBracketOfRun}
 use Rattle.reports.specs.Reports.{IsPrintedPlan}
 use Rattle.reports.proofs.Limits.{IsPrintable}
 

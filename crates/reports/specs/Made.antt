@@ -6,7 +6,7 @@ use Rattle.drawn_game.specs.Rules.{drawn_game}
 use Rattle.drawn_game.specs.Asked.{question_of}
 use Rattle.formula_reader.specs.declared.formula.Bound.TheVariants.{AskMax}
 use Rattle.bracket_engine.specs.declared.bounds.Bracket.{Bracket}
-use Rattle.bracket_engine.specs.Found.{IsBracketOfRun}
+use Rattle.bracket_engine.specs.BracketOfRun.{IsBracketOfRun}
 use Rattle.output.specs.declared.status.Status.{Status}
 use Rattle.output.specs.declared.status.Status.TheVariants.{Fine, SomeUndecided}
 use Rattle.output.specs.Refusals.{numbered}

@@ -12,7 +12,7 @@ use Rattle.verdicts.specs.Open.{IsLeftOpen}
 use Rattle.verdicts.specs.declared.report.How.TheVariants.{Rounds}
 use Rattle.verdicts.specs.declared.verdict.Verdict.TheVariants.{Undecided}
 use Rattle.bracket_engine.specs.declared.bounds.Bracket.{Bracket}
-use Rattle.bracket_engine.specs.Found.{IsBracketOfRun}
+use Rattle.bracket_engine.specs.BracketOfRun.{IsBracketOfRun}
 use Rattle.trap_sets.specs.Lowered.{IsLoweredTable}
 use Rattle.rpatl_syntax.specs.Dual.{answered}
 use Rattle.command_words.specs.Words.{Check}

@@ -6,7 +6,7 @@ use Rattle.formula_reader.specs.Formula.{Tree, tree_of}
 use Rattle.command_words.specs.Words.{check_of}
 use Rattle.rpatl_syntax.specs.Dual.{answered}
 use Rattle.certificate_audit.proofs.Soundness.{sound}
-use Rattle.bracket_engine.specs.Found.{IsBracketOfRun}
+use Rattle.bracket_engine.specs.BracketOfRun.{IsBracketOfRun}
 use Rattle.verdicts.specs.declared.report.How.TheVariants.{Rounds}
 use Rattle.reports.proofs.Limits.{plan_line, plan-units, printed-in_limits}
 use Rattle.reports.proofs.Reported.{all-left_open, reported, verdict-answered, plan_verdict}
