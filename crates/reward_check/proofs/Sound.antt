@@ -1,13 +1,13 @@
 -- What is accepted bounds what the game is worth.
 use Rattle.std.proofs.Common.{◌≡◌, ℕ, ◌*◌, ◌<◌, ◌≤◌, Bool, true, false, List, [], ◌∷◌, length, map, sum_by}
-use Rattle.std.proofs.Common.{arith, refl, ap, sym, ◌∙◌, inl, inr, Option, Some, None}
+use Rattle.std.proofs.Common.{get_or, arith, refl, ap, sym, ◌∙◌, inl, inr, Option, Some, None}
 use Rattle.std.specs.Bool.{if◌then◌else◌}
-use Rattle.std.specs.List.{AllByRecursion}
+use Rattle.std.specs.List.{All}
 use Rattle.std.specs.Prelude.{slice_index, slice_index_or, IsSomeAnd}
 use Rattle.std.proofs.Math.Nat.{mul-le-mul_left}
 use Rattle.std.proofs.lemmas.Bool.{both_ways, cases_lt}
 use Rattle.std.proofs.lemmas.List.{get_or-map}
-use Rattle.std.proofs.lemmas.List.Elements.{recursion_from_All}
+use Rattle.std.proofs.lemmas.List.Elements.{All-head, All-tail}
 use Rattle.std.proofs.lemmas.List.Sums.{sum_by-cons}
 use Rattle.game_model.specs.declared.game.Edge.{Edge}
 use Rattle.game_model.specs.declared.game.Side.TheVariants.{Max, Min}
@@ -17,7 +17,6 @@ use Rattle.game_model.specs.Query.{IsQuery, states, is_dead, side_at}
 use Rattle.game_model.specs.Ranks.{IsRankedChoice, Ranked}
 use Rattle.game_model.specs.Values.{weighted_sum}
 use Rattle.game_model.proofs.Choices.{IsChoiceOf, IsChoiceOf-choice_of}
-use Rattle.game_model.proofs.Each.{AllByRecursion-at, AllByRecursion-both, AllByRecursion-weaker}
 use Rattle.game_laws.proofs.Planned.{planned_place-given}
 use Rattle.strategies.proofs.Plans.{plan-reaches}
 use Rattle.rank_certificate.proofs.Plans.{Ranked-reached}
@@ -68,12 +67,16 @@ marked true v is some = refl
 marked false v is some = absurd (omega (arith, is, some))
 
 -- an average of entries that are at least a number
-average-least : (v : ℕ → ℕ) (m : ℕ) (edges : List Edge) → AllByRecursion (λ e. m ≤ v e.to) edges
+average-least : (v : ℕ → ℕ) (m : ℕ) (edges : List Edge) → All (λ e. m ≤ v e.to) edges
     → m * sum_by (λ e. e.weight) edges ≤ weighted_sum v edges
 average-least v m [] h = omega arith
 average-least v m (e ∷ es) h =
     rw (sum_by-cons (λ (d : Edge). d.weight * v d.to) e es, sum_by-cons (λ (d : Edge). d.weight) e es)
-    (omega (arith, average-least v m es h.1, mul-le-mul_left e.weight h.0))
+    (omega (
+      arith,
+      average-least v m es (All-tail (λ (d : Edge). m ≤ v d.to) e es h),
+      mul-le-mul_left e.weight (All-head (λ (d : Edge). m ≤ v d.to) e es h),
+    ))
 
 enough-factors : (v u t w n : ℕ) → v ≡ u → n ≡ t → u * n ≤ w → v * t ≤ w
 enough-factors v u t w n same sums h = rw (same, ← sums) h
@@ -133,18 +136,15 @@ module _ (c : Certificate) (posed : IsQuery c.question)
       let fits : IsChoiceOf c.question.game (choice_of c.question.game s k) =
       IsChoiceOf-choice_of c.question.game s k posed.game inside may.0 in
       let there : (slice_index_or (choice_of c.question.game s k).edges step.place no_edge).to < states c.question =
-      AllByRecursion-at (λ (e : Edge). e.to < states c.question) (choice_of c.question.game s k).edges step.place
-      no_edge step.inside fits.inside in
+      fits.inside step.place no_edge step.inside in
       let least : unit * sum_by (λ (e : Edge). e.weight) (choice_of c.question.game s k).edges
       ≤ weighted_sum value (choice_of c.question.game s k).edges =
       average-least value unit (choice_of c.question.game s k).edges
-      (AllByRecursion-weaker (λ (e : Edge). (e.to < states c.question) × (is_finite c.bounded e.to ≡ true))
-      (λ (e : Edge). unit ≤ value e.to) (λ e both. omega (arith, value-whole e.to both.0 both.1))
-      (choice_of c.question.game s k).edges
-      (AllByRecursion-both (λ (e : Edge). e.to < states c.question) (λ (e : Edge). is_finite c.bounded e.to ≡ true)
-      (choice_of c.question.game s k).edges fits.inside
-      (recursion_from_All (λ (e : Edge). is_finite c.bounded e.to ≡ true) (choice_of c.question.game s k).edges
-      right.0))) in
+      (λ i d l.
+      omega (
+        arith,
+        value-whole (get_or (choice_of c.question.game s k).edges i d).to (fits.inside i d l) (right.0 i d l),
+      )) in
       record {
         enough = enough-factors (value s) unit (choice_of c.question.game s k).total
             (weighted_sum value (choice_of c.question.game s k).edges)
