@@ -1,7 +1,7 @@
 -- The up step of a state that is neither goal nor dead, against its entry.
 use Rattle.std.proofs.Common.{◌≡◌, ℕ, ◌+◌, ◌<◌, ◌≤◌, length, arith, subst, sym, inl, inr}
 use Rattle.std.proofs.lemmas.Bool.{cases_lt}
-use Rattle.std.proofs.lemmas.List.Elements.{recursion_from_All, All-from_get_or}
+use Rattle.std.proofs.lemmas.List.Elements.{All-from_get_or}
 use Rattle.game_model.specs.declared.game.Side.TheVariants.{Max, Min}
 use Rattle.game_model.specs.Game.{Distribution, no_distribution, choices_of, choice_of}
 use Rattle.game_model.specs.Query.{Query, IsQuery, states, side_at}
@@ -38,8 +38,7 @@ module _ (q : Query) (table : ℕ → ℕ) (s : ℕ) (h : IsQuery q) (inside : s
       let P : Distribution → Type 0 = λ m. up_value table m ≤ table s in
       subst (λ n. n ≤ table s) (sym (up_step-free q table s free))
       (optimum-most (side_at q s) (up_value table) (table s) (choices_of q.game s)
-      (recursion_from_All P (choices_of q.game s)
-      (All-from_get_or P (choices_of q.game s) no_distribution (λ c in_range. held-most c in_range (all c in_range)))))
+      (All-from_get_or P (choices_of q.game s) no_distribution (λ c in_range. held-most c in_range (all c in_range))))
 
   -- where none is held
   pub none-held : IsFree q s → NoneHeld q table s → table s < up_step q table s
@@ -47,8 +46,8 @@ module _ (q : Query) (table : ℕ → ℕ) (s : ℕ) (h : IsQuery q) (inside : s
       let P : Distribution → Type 0 = λ m. table s + 1 ≤ up_value table m in
       let least : table s + 1 ≤ optimum (side_at q s) (up_value table) (choices_of q.game s) =
       optimum-least (side_at q s) (up_value table) (table s + 1) (choices_of q.game s) (h.game.chosen s inside)
-      (recursion_from_All P (choices_of q.game s) (All-from_get_or P (choices_of q.game s) no_distribution
-      (λ c in_range. unheld-above c in_range (none c in_range)))) in
+      (All-from_get_or P (choices_of q.game s) no_distribution
+      (λ c in_range. unheld-above c in_range (none c in_range))) in
       subst (λ n. table s < n) (sym (up_step-free q table s free)) (omega (arith, least))
 
   -- where one choice of the maximiser is not held
