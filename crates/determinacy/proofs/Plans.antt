@@ -2,13 +2,12 @@
 use Rattle.std.proofs.Common.{◌≡◌, ℕ, ◌+◌, ◌*◌, ◌^◌, ◌<◌, ◌≤◌, Bool, true, false, List, [], length, map}
 use Rattle.std.proofs.Common.{take, drop, sum, get_or, arith, refl, sym, subst, inl, inr, ◌∙◌, Option, Some, None}
 use Rattle.std.specs.Prelude.{slice_index, slice_index_or}
-use Rattle.std.specs.List.{AllByRecursion, range_with_len}
+use Rattle.std.specs.List.{All, range_with_len}
 use Rattle.std.specs.Bool.{if◌then◌else◌}
 use Rattle.std.proofs.lemmas.Bool.{cases_lt}
-use Rattle.std.proofs.lemmas.List.Elements.{All-from_recursion, recursion_from_All, All-from_get_or}
+use Rattle.std.proofs.lemmas.List.Elements.{All-from_get_or}
 use Rattle.std.proofs.lemmas.List.FromFn.{get_or-map-range_with_len}
 use Rattle.std.proofs.Math.Nat.{mul-le-mul_left}
-use Rattle.game_model.specs.declared.game.Edge.{Edge}
 use Rattle.game_model.specs.declared.game.Side.{Side}
 use Rattle.game_model.specs.declared.game.Side.TheVariants.{Max, Min}
 use Rattle.game_model.specs.Game.{Distribution, no_distribution, no_edge, choices_of, choice_of}
@@ -32,9 +31,9 @@ use Rattle.determinacy.proofs.Values.{exact-values}
 fits-of : (game : List (List Distribution)) (m : Distribution) → IsChoiceOf game m → Fits (length game) m
 fits-of game m h = record {
   positive = h.positive;
-  weights = All-from_recursion (λ (e : Edge). 1 ≤ e.weight) m.edges h.weights;
+  weights = h.weights;
   few = omega (arith, h.sums);
-  inside = All-from_recursion (λ (e : Edge). e.to < length game) m.edges h.inside;
+  inside = h.inside;
 }
 
 fit-choices : (q : Query) → IsQuery q → FitAll q (choices_of q.game)
@@ -125,14 +124,14 @@ module _ (q : Query) (posed : IsQuery q) (a : Exact q (choices_of q.game)) where
 
   -- 1. What the maximiser reaches.
   all-ranked : (s : ℕ) → s < states q → (needs : Needs q a.value s) → (side : Side) → side_at q s ≡ side
-      → AllByRecursion (IsRankedChoice a.value (slice_index ranks) s) (if same_side side Max then take 1
+      → All (IsRankedChoice a.value (slice_index ranks) s) (if same_side side Max then take 1
       (drop (planned_place plan s (length (choices_of q.game s))) (choices_of q.game s)) else choices_of q.game s)
   all-ranked s inside needs Max is =
       let pick = (picking s (side_at q s) refl).1 needs is in
       let place : planned_place plan s (length (choices_of q.game s)) ≡ (picking s (side_at q s) refl).0 =
       planned_place-given plan s (length (choices_of q.game s)) (picking s (side_at q s) refl).0
       (plan-at s inside) pick.0 in
-      subst (λ p. AllByRecursion (IsRankedChoice a.value (slice_index ranks) s) (take 1 (drop p (choices_of q.game s))))
+      subst (λ p. All (IsRankedChoice a.value (slice_index ranks) s) (take 1 (drop p (choices_of q.game s))))
       (sym place)
       (one-at (IsRankedChoice a.value (slice_index ranks) s) (choices_of q.game s)
       (picking s (side_at q s) refl).0 no_distribution pick.0 pick.1)
@@ -141,8 +140,7 @@ module _ (q : Query) (posed : IsQuery q) (a : Exact q (choices_of q.game)) where
       subst (λ side. SolvedAt side a.value s (choices_of q.game s)) is (a.solves.solved s inside needs.free) in
       let ranked : RankedAt Min a.value a.rank s (choices_of q.game s) =
       subst (λ side. RankedAt side a.value a.rank s (choices_of q.game s)) is (a.ranks s needs) in
-      recursion_from_All (IsRankedChoice a.value (slice_index ranks) s) (choices_of q.game s)
-      (λ c m l. as-ranked s inside _ (fit-choices q posed s inside c m l) (solved.0 c m l) (ranked c m l))
+      λ c m l. as-ranked s inside _ (fit-choices q posed s inside c m l) (solved.0 c m l) (ranked c m l)
 
   dead-none : (s : ℕ) → s < states q → is_dead q s ≡ true → a.value s ≡ 0
   dead-none s inside dead = a.solves.deads s inside (no-goal (is_goal q s) (is_dead q s) (posed.apart s) dead) dead

@@ -47,7 +47,7 @@ worth-sum q u v w m fits h =
     omega (
       arith,
       mul-le-mul_left (denominator q.game / m.total)
-          (sums-le u v w m.edges (λ i e l. h (get_or m.edges i e).to (fits.inside i e l))),
+          (sums-le u v w m.edges (λ i d l. h (get_or m.edges i d).to (fits.inside i d l))),
     )
 
 over-le : (over : Bool) (a b x y : ℕ) → a * x ≤ b * y → a * (if over then 0 else x) ≤ b * (if over then 0 else y)

@@ -55,7 +55,7 @@ pub worth-among : (q : Query) (Among : ℕ → Type 0) (v w : ℕ → ℕ) (a b 
     → a * worth q v m ≤ b * worth q w m
 worth-among q Among v w a b m fits h =
     scaled-le a b (denominator q.game / m.total) (weighted_sum v m.edges) (weighted_sum w m.edges)
-    (weighted_sum-le v w a b m.edges (λ i e l. h (get_or m.edges i e).to (fits i e l)))
+    (weighted_sum-le v w a b m.edges (λ i d l. h (get_or m.edges i d).to (fits i d l)))
 
 -- a choice is worth more where its successors are
 pub worth-le : (q : Query) (v w : ℕ → ℕ) (a b : ℕ) (m : Distribution) → IsChoiceOf q.game m

@@ -1,7 +1,7 @@
 -- Members of the attractor have positive values, and outside it all values are 0.
 use Rattle.std.proofs.Common.{◌≡◌, ℕ, zero, suc, ◌*◌, ◌/◌, ◌^◌, ◌<◌, ◌≤◌, Bool, true, false, List, length, map, get_or}
 use Rattle.std.proofs.Common.{arith, refl, sym, ◌∙◌, subst, sum_by, inl, inr, not}
-use Rattle.std.specs.List.{AllByRecursion}
+use Rattle.std.specs.List.{All}
 use Rattle.std.specs.Prelude.{slice_index_or, slice_set}
 use Rattle.std.specs.Bool.{if◌then◌else◌}
 use Rattle.std.proofs.lemmas.Bool.{cases_eq}
@@ -14,7 +14,6 @@ use Rattle.game_model.specs.Game.{Distribution, no_distribution, no_edge, choice
 use Rattle.game_model.specs.Query.{Query, IsQuery, states, is_goal, is_dead, side_at}
 use Rattle.game_model.specs.Values.{optimum, weighted_sum, denominator, numerator, numerator_of}
 use Rattle.game_model.specs.Dual.{IsZeroSet}
-use Rattle.game_model.proofs.Each.{AllByRecursion-weaker, AllByRecursion-at, AllByRecursion-both}
 use Rattle.game_model.proofs.Choices.{IsChoiceOf, AreChoicesOf, AreChoicesOf-choices_of, denominator-pos}
 use Rattle.game_model.proofs.Best.{optimum-most, optimum-below, optimum-each, weighted_sum-most}
 use Rattle.game_model.proofs.Rises.{numerator_of-rises}
@@ -37,8 +36,7 @@ choice-positive q set k m positive fits reached h =
     let one : (i : ℕ) × (i < length m.edges) × (slice_index_or set (get_or m.edges i no_edge).to false ≡ true) =
     any-place (λ (e : Edge). slice_index_or set e.to false) m.edges no_edge h in
     scaled-pos q.game m (numerator q k) one.0 positive fits one.1
-    (reached (get_or m.edges one.0 no_edge).to
-    (AllByRecursion-at (λ (e : Edge). e.to < length q.game) m.edges one.0 no_edge one.1 fits.inside) one.2)
+    (reached (get_or m.edges one.0 no_edge).to (fits.inside one.0 no_edge one.1) one.2)
 
 -- and so is the optimum of a side that is attracted
 side-positive : (q : Query) (s k : ℕ) (set : List Bool) (side : Side) → side_at q s ≡ side
@@ -51,18 +49,15 @@ side-positive q s k set Max is_side chosen positive inside reached h =
     let one : (c : ℕ) × (c < length (choices_of q.game s)) × (meets set (choice_of q.game s c) ≡ true) =
     any-place (meets set) (choices_of q.game s) no_distribution h in
     let here : 1 ≤ f (choice_of q.game s one.0) = choice-positive q set k (choice_of q.game s one.0) positive
-    (AllByRecursion-at (IsChoiceOf q.game) (choices_of q.game s) one.0 no_distribution one.1 (chosen.each s)) reached
-    one.2 in
+    (chosen.each s one.0 no_distribution one.1) reached one.2 in
     let most : f (choice_of q.game s one.0) ≤ optimum Max f (choices_of q.game s) =
     optimum-each f (choices_of q.game s) one.0 no_distribution one.1 in
     subst (λ side. 1 ≤ optimum side f (choices_of q.game s)) (sym is_side) (omega (arith, here, most))
 side-positive q s k set Min is_side chosen positive inside reached h =
     let f : Distribution → ℕ = λ m. denominator q.game / m.total * weighted_sum (numerator q k) m.edges in
     optimum-positive q s f (choices_of q.game s) (chosen.some s inside)
-    (AllByRecursion-weaker (λ m. IsChoiceOf q.game m × (meets set m ≡ true)) _
-    (λ m fact. choice-positive q set k m positive fact.0 reached fact.1) (choices_of q.game s)
-    (AllByRecursion-both (IsChoiceOf q.game) (λ m. meets set m ≡ true) (choices_of q.game s) (chosen.each s)
-    (all-each (meets set) (choices_of q.game s) h)))
+    (λ c d l. choice-positive q set k (get_or (choices_of q.game s) c d) positive (chosen.each s c d l) reached
+    (all-each (meets set) (choices_of q.game s) h c d l))
 
 -- a state that is attracted has a positive value one step later
 attracted-positive : (q : Query) (set : List Bool) (k s : ℕ) → IsQuery q → s < states q
@@ -110,10 +105,10 @@ IsReached-grown q _ posed (with_state set s grew inside alive drawn) =
     IsReached-add q set s posed inside (IsReached-grown q set posed grew) alive drawn
 
 -- a sum over a table that is 0 at each successor
-weighted_sum-none : (v : ℕ → ℕ) (edges : List Edge) → AllByRecursion (λ e. v e.to ≡ 0) edges → weighted_sum v edges ≡ 0
+weighted_sum-none : (v : ℕ → ℕ) (edges : List Edge) → All (λ e. v e.to ≡ 0) edges → weighted_sum v edges ≡ 0
 weighted_sum-none v edges h =
-    let most : weighted_sum v edges ≤ sum_by (λ e. e.weight) edges * 0 = weighted_sum-most v 0 edges
-    (AllByRecursion-weaker (λ (e : Edge). v e.to ≡ 0) _ (λ e none. omega (arith, none)) edges h) in
+    let most : weighted_sum v edges ≤ sum_by (λ e. e.weight) edges * 0 =
+    weighted_sum-most v 0 edges (λ i d l. omega (arith, h i d l)) in
     omega (arith, most)
 
 -- a choice that does not meet the set leads to states of value 0 alone
@@ -121,14 +116,11 @@ choice-none : (q : Query) (set : List Bool) (k : ℕ) (m : Distribution) → IsC
     → ((t : ℕ) → t < states q → slice_index_or set t false ≡ false → numerator q k t ≡ 0) → meets set m ≡ false
     → denominator q.game / m.total * weighted_sum (numerator q k) m.edges ≡ 0
 choice-none q set k m fits none h =
-    let edges : AllByRecursion (λ (e : Edge). (e.to < length q.game) × (slice_index_or set e.to false ≡ false))
-    m.edges =
-    AllByRecursion-both (λ (e : Edge). e.to < length q.game) (λ (e : Edge). slice_index_or set e.to false ≡ false)
-    m.edges fits.inside (any-none (λ (e : Edge). slice_index_or set e.to false) m.edges h) in
+    let out : All (λ (e : Edge). slice_index_or set e.to false ≡ false) m.edges =
+    any-none (λ (e : Edge). slice_index_or set e.to false) m.edges h in
     let nothing : weighted_sum (numerator q k) m.edges ≡ 0 =
     weighted_sum-none (numerator q k) m.edges
-    (AllByRecursion-weaker (λ (e : Edge). (e.to < length q.game) × (slice_index_or set e.to false ≡ false)) _
-    (λ e facts. none e.to facts.0 facts.1) m.edges edges) in
+    (λ i d l. none (get_or m.edges i d).to (fits.inside i d l) (out i d l)) in
     rw nothing (omega arith)
 
 -- the optimum of a side that is not attracted is 0
@@ -138,18 +130,19 @@ side-none : (q : Query) (s k : ℕ) (set : List Bool) (side : Side) → AreChoic
     → optimum side (λ m. denominator q.game / m.total * weighted_sum (numerator q k) m.edges) (choices_of q.game s) ≡ 0
 side-none q s k set Max chosen none h =
     let f : Distribution → ℕ = λ m. denominator q.game / m.total * weighted_sum (numerator q k) m.edges in
-    let each : AllByRecursion (λ m. f m ≤ 0) (choices_of q.game s) =
-    AllByRecursion-weaker (λ m. IsChoiceOf q.game m × (meets set m ≡ false)) _
-    (λ m fact. omega (arith, choice-none q set k m fact.0 none fact.1)) (choices_of q.game s)
-    (AllByRecursion-both (IsChoiceOf q.game) (λ m. meets set m ≡ false) (choices_of q.game s) (chosen.each s)
-    (any-none (meets set) (choices_of q.game s) h)) in
+    let unmet : All (λ m. meets set m ≡ false) (choices_of q.game s) = any-none (meets set) (choices_of q.game s) h in
+    let each : All (λ m. f m ≤ 0) (choices_of q.game s) = λ c d l.
+    omega (
+      arith,
+      choice-none q set k (get_or (choices_of q.game s) c d) (chosen.each s c d l) none (unmet c d l),
+    ) in
     omega (arith, optimum-most Max f 0 (choices_of q.game s) each)
 side-none q s k set Min chosen none h =
     let f : Distribution → ℕ = λ m. denominator q.game / m.total * weighted_sum (numerator q k) m.edges in
     let one : (c : ℕ) × (c < length (choices_of q.game s)) × (meets set (choice_of q.game s c) ≡ false) =
     all-place (meets set) (choices_of q.game s) no_distribution h in
-    let here : f (choice_of q.game s one.0) ≡ 0 = choice-none q set k (choice_of q.game s one.0) (AllByRecursion-at
-    (IsChoiceOf q.game) (choices_of q.game s) one.0 no_distribution one.1 (chosen.each s)) none one.2 in
+    let here : f (choice_of q.game s one.0) ≡ 0 = choice-none q set k (choice_of q.game s one.0)
+    (chosen.each s one.0 no_distribution one.1) none one.2 in
     omega (arith, here, optimum-below f (choices_of q.game s) one.0 no_distribution one.1)
 
 opening-none : (goal : Bool) → goal ≡ false → ◌≡◌ {A = ℕ} (if goal then 1 else 0) 0
