@@ -2,11 +2,11 @@
 use Rattle.std.proofs.Common.{◌≡◌, ℕ, zero, suc, ◌+◌, ◌-◌, ◌*◌, ◌/◌, ◌^◌, ◌<◌, ◌≤◌, Bool, true, false, List, [], ◌∷◌}
 use Rattle.std.proofs.Common.{length, get_or, arith, refl, sym, ap, ◌∙◌, subst, sum_by, inl, inr}
 use Rattle.std.proofs.lemmas.Bool.{cases_Bool}
-use Rattle.std.specs.List.{AllByRecursion, list_any}
+use Rattle.std.specs.List.{All, list_any}
 use Rattle.std.specs.Prelude.{slice_index_or}
 use Rattle.std.specs.Bool.{if◌then◌else◌}
 use Rattle.std.proofs.lemmas.Nat.{pow-add}
-use Rattle.std.proofs.lemmas.List.Elements.{recursion_from_All, All-from_get_or}
+use Rattle.std.proofs.lemmas.List.Elements.{All-head, All-tail, All-from_get_or}
 use Rattle.std.proofs.lemmas.List.Sums.{sum_by-cons}
 use Rattle.std.proofs.Math.Nat.{mul-le-mul_left, mul-le-mul_right, pow-suc}
 use Rattle.game_model.specs.declared.game.Edge.{Edge}
@@ -15,7 +15,6 @@ use Rattle.game_model.specs.declared.game.Side.TheVariants.{Max, Min}
 use Rattle.game_model.specs.Game.{Distribution, no_distribution, no_edge, choices_of, choice_of}
 use Rattle.game_model.specs.Query.{Query, IsQuery, states, is_goal, is_dead, side_at}
 use Rattle.game_model.specs.Values.{optimum, weighted_sum, denominator, numerator, numerator_of}
-use Rattle.game_model.proofs.Each.{AllByRecursion-weaker, AllByRecursion-at, AllByRecursion-both}
 use Rattle.game_model.proofs.Choices.{IsChoiceOf, AreChoicesOf-choices_of, IsChoiceOf-choice_of, denominator-pos}
 use Rattle.game_model.proofs.Best.{optimum-below}
 use Rattle.game_model.proofs.Rises.{numerator_of-most}
@@ -50,33 +49,53 @@ IsAway-more q e f s posed l h =
     let at : (f - e) + e ≡ f = omega arith in
     subst (λ n. IsAway q n s) at (IsAway-plus q e (f - e) s posed h)
 
--- a sum over values that are within a bound, and within a smaller one at one destination
-weighted_sum-within : (v : ℕ → ℕ) (E b : ℕ) (edges : List Edge)
-    → AllByRecursion (λ e. (1 ≤ e.weight) × (v e.to * E ≤ b)) edges
+-- an edge to a value that is within a bound
+abbrev IsWithin : (ℕ → ℕ) → ℕ → ℕ → Edge → Type 0
+IsWithin v E b e = (1 ≤ e.weight) × (v e.to * E ≤ b)
+
+-- a sum over such values, and over those that are within a smaller bound at one destination
+weighted_sum-within : (v : ℕ → ℕ) (E b : ℕ) (edges : List Edge) → All (IsWithin v E b) edges
     → weighted_sum v edges * E ≤ sum_by (λ e. e.weight) edges * b
 weighted_sum-within v E b [] each = omega arith
 weighted_sum-within v E b (e ∷ es) each =
     rw (sum_by-cons (λ (d : Edge). d.weight * v d.to) e es, sum_by-cons (λ (d : Edge). d.weight) e es)
-    (omega (arith, weighted_sum-within v E b es each.1, mul-le-mul_left e.weight each.0.1))
+    (omega (
+      arith,
+      weighted_sum-within v E b es (All-tail (IsWithin v E b) e es each),
+      mul-le-mul_left e.weight (All-head (IsWithin v E b) e es each).1,
+    ))
 
 weighted_sum-away : (v : ℕ → ℕ) (E b p : ℕ) (edges : List Edge) (i : ℕ)
-    → AllByRecursion (λ e. (1 ≤ e.weight) × (v e.to * E ≤ b)) edges → i < length edges
+    → All (IsWithin v E b) edges → i < length edges
     → v (get_or edges i no_edge).to * E + p ≤ b → weighted_sum v edges * E + p ≤ sum_by (λ e. e.weight) edges * b
 weighted_sum-away v E b p [] i each l one = absurd (omega arith)
 weighted_sum-away v E b p (e ∷ es) zero each l one =
     rw (sum_by-cons (λ (d : Edge). d.weight * v d.to) e es, sum_by-cons (λ (d : Edge). d.weight) e es)
-    (omega (arith, weighted_sum-within v E b es each.1, mul-le-mul_left e.weight one, mul-le-mul_right p each.0.0))
+    (omega (
+      arith,
+      weighted_sum-within v E b es (All-tail (IsWithin v E b) e es each),
+      mul-le-mul_left e.weight one,
+      mul-le-mul_right p (All-head (IsWithin v E b) e es each).0,
+    ))
 weighted_sum-away v E b p (e ∷ es) (suc i) each l one =
     rw (sum_by-cons (λ (d : Edge). d.weight * v d.to) e es, sum_by-cons (λ (d : Edge). d.weight) e es)
-    (omega (arith, weighted_sum-away v E b p es i each.1 (omega arith) one, mul-le-mul_left e.weight each.0.1))
+    (omega (
+      arith,
+      weighted_sum-away v E b p es i (All-tail (IsWithin v E b) e es each) (omega arith) one,
+      mul-le-mul_left e.weight (All-head (IsWithin v E b) e es each).1,
+    ))
 
 -- a sum over values that are all away
-weighted_sum-apart : (v : ℕ → ℕ) (E b p : ℕ) (edges : List Edge) → AllByRecursion (λ e. v e.to * E + p ≤ b) edges
+weighted_sum-apart : (v : ℕ → ℕ) (E b p : ℕ) (edges : List Edge) → All (λ e. v e.to * E + p ≤ b) edges
     → weighted_sum v edges * E + sum_by (λ e. e.weight) edges * p ≤ sum_by (λ e. e.weight) edges * b
 weighted_sum-apart v E b p [] each = omega arith
 weighted_sum-apart v E b p (e ∷ es) each =
     rw (sum_by-cons (λ (d : Edge). d.weight * v d.to) e es, sum_by-cons (λ (d : Edge). d.weight) e es)
-    (omega (arith, weighted_sum-apart v E b p es each.1, mul-le-mul_left e.weight each.0))
+    (omega (
+      arith,
+      weighted_sum-apart v E b p es (All-tail (λ (d : Edge). v d.to * E + p ≤ b) e es each),
+      mul-le-mul_left e.weight (All-head (λ (d : Edge). v d.to * E + p ≤ b) e es each),
+    ))
 
 scaled-away : (r w d x E p b : ℕ) → r * w ≡ d → 1 ≤ r → x * E + p ≤ w * b → r * x * E + p ≤ d * b
 scaled-away r w d x E p b same some sums = rw (← same) (omega (arith, mul-le-mul_left r sums, mul-le-mul_right p some))
@@ -98,7 +117,7 @@ far-by-one q gone e k m posed fits away meet =
     let one = meets-successor gone m meet in
     let u : ℕ = (get_or m.edges one.0 no_edge).to in
     let there : numerator q k u * D ^ e + D ^ k ≤ D ^ (e + k) =
-    away u (AllByRecursion-at (λ (e : Edge). e.to < length q.game) m.edges one.0 no_edge one.1 fits.inside) one.2 k in
+    away u (fits.inside one.0 no_edge one.1) one.2 k in
     let each : (t : ℕ) → numerator q k t * D ^ e ≤ D ^ (e + k) = λ t.
     subst (λ x. numerator q k t * D ^ e ≤ x) (sym (pow-add D e k)) (omega (
       arith,
@@ -107,15 +126,15 @@ far-by-one q gone e k m posed fits away meet =
     )) in
     let sums : weighted_sum (numerator q k) m.edges * D ^ e + D ^ k ≤ m.total * D ^ (e + k) =
     subst (λ w. weighted_sum (numerator q k) m.edges * D ^ e + D ^ k ≤ w * D ^ (e + k)) fits.sums
-    (weighted_sum-away (numerator q k) (D ^ e) (D ^ (e + k)) (D ^ k) m.edges one.0 (AllByRecursion-weaker
-    (λ (e : Edge). 1 ≤ e.weight) _ (λ d some. (some, each d.to)) m.edges fits.weights) one.1 there) in
+    (weighted_sum-away (numerator q k) (D ^ e) (D ^ (e + k)) (D ^ k) m.edges one.0
+    (λ i d l. (fits.weights i d l, each (get_or m.edges i d).to)) one.1 there) in
     let whole : D / m.total * weighted_sum (numerator q k) m.edges * D ^ e + D ^ k ≤ D * D ^ (e + k) =
     scaled-away (D / m.total) m.total D (weighted_sum (numerator q k) m.edges) (D ^ e) (D ^ k)
     (D ^ (e + k)) fits.divides (quotient-pos D m.total fits.divides positive) sums in
     rw (pow-suc_both D e k, pow-suc D e, pow-suc D k) (omega (arith, mul-le-mul_right D whole))
 
 -- or by all of them
-pub far-by-all : (q : Query) (e k : ℕ) (m : Distribution) → IsChoiceOf q.game m → AllByRecursion
+pub far-by-all : (q : Query) (e k : ℕ) (m : Distribution) → IsChoiceOf q.game m → All
     (λ d. numerator q k d.to * denominator q.game ^ suc e + denominator q.game ^ k ≤ denominator q.game ^ (suc e + k))
     m.edges → IsFar q e k m
 far-by-all q e k m fits each =
@@ -142,14 +161,13 @@ side-away : (q : Query) (e k s : ℕ) (side : Side) → side_at q s ≡ side →
 side-away q e k s Max is_side posed inside far =
     let D : ℕ = denominator q.game in
     let f : Distribution → ℕ = λ m. D / m.total * weighted_sum (numerator q k) m.edges in
-    let each : AllByRecursion (IsFar q e k) (choices_of q.game s) =
-    recursion_from_All (IsFar q e k) (choices_of q.game s)
-    (All-from_get_or (IsFar q e k) (choices_of q.game s) no_distribution (far.greatest is_side)) in
+    let each : All (IsFar q e k) (choices_of q.game s) =
+    All-from_get_or (IsFar q e k) (choices_of q.game s) no_distribution (far.greatest is_side) in
     let all : D ^ suc k + D ^ suc e * optimum (side_at q s) f (choices_of q.game s)
     ≤ 0 * optimum (side_at q s) f (choices_of q.game s) + D ^ (suc e + suc k) =
     optimum-affine (side_at q s) f f (D ^ suc k) (D ^ suc e) 0
     (D ^ (suc e + suc k)) (choices_of q.game s) (posed.game.chosen s inside)
-    (AllByRecursion-weaker (IsFar q e k) _ (λ m fact. omega (arith, fact)) (choices_of q.game s) each) in
+    (λ c d l. omega (arith, each c d l)) in
     omega (arith, all)
 side-away q e k s Min is_side posed inside far =
     let D : ℕ = denominator q.game in
@@ -224,22 +242,20 @@ choice-left : (q : Query) (gone set : List Bool) (e k : ℕ) (m : Distribution) 
 choice-left q gone set e k m posed fits away left fails = elim (serves-not (gone_excluded gone) set m fails) [
   | inl leads ↦ far-by-one q gone e k m posed fits away leads
   | inr unmet ↦
-      far-by-all q e k m fits
-      (AllByRecursion-weaker (λ (d : Edge). (d.to < length q.game) × (slice_index_or set d.to false ≡ false)) _
-      (λ d facts. elim (cases_Bool (slice_index_or gone d.to false)) [
-        | inl out ↦ IsAway-suc q e d.to posed (away d.to facts.0 out) k
-        | inr within ↦ left d.to facts.0 facts.1 within
+      let outside : All (λ (d : Edge). slice_index_or set d.to false ≡ false) m.edges =
+      any-none (λ (d : Edge). slice_index_or set d.to false) m.edges unmet in
+      far-by-all q e k m fits (λ i d l. elim (cases_Bool (slice_index_or gone (get_or m.edges i d).to false)) [
+        | inl out ↦ IsAway-suc q e (get_or m.edges i d).to posed
+            (away (get_or m.edges i d).to (fits.inside i d l) out) k
+        | inr within ↦ left (get_or m.edges i d).to (fits.inside i d l) (outside i d l) within
       ])
-      m.edges
-      (AllByRecursion-both (λ (d : Edge). d.to < length q.game) (λ (d : Edge). slice_index_or set d.to false ≡ false)
-      m.edges fits.inside (any-none (λ (d : Edge). slice_index_or set d.to false) m.edges unmet)))
 ]
 
 any-fails : (gone set : List Bool) (choices : List Distribution) (c : ℕ)
     → c < length choices → list_any (serves (gone_excluded gone) set) choices ≡ false
     → serves (gone_excluded gone) set (get_or choices c no_distribution) ≡ false
-any-fails gone set choices c l fails = AllByRecursion-at (λ m. serves (gone_excluded gone) set m ≡ false) choices c
-    no_distribution l (any-none (serves (gone_excluded gone) set) choices fails)
+any-fails gone set choices c l fails =
+    any-none (serves (gone_excluded gone) set) choices fails c no_distribution l
 
 side-left : (q : Query) (gone set : List Bool) (e k s : ℕ) → IsQuery q → s < states q
     → ((t : ℕ) → t < states q → slice_index_or gone t false ≡ true → IsAway q e t)

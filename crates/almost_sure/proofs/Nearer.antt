@@ -1,11 +1,12 @@
 -- Members of the inner set come nearer to 1 than the outer set is.
 use Rattle.std.proofs.Common.{◌≡◌, ℕ, zero, suc, ◌+◌, ◌*◌, ◌/◌, ◌^◌, ◌<◌, ◌≤◌, Bool, true, false, List, [], ◌∷◌, length}
 use Rattle.std.proofs.Common.{set, get_or, arith, refl, sym, ◌∙◌, subst, sum_by, inl, inr, add-suc, add-zero}
-use Rattle.std.specs.List.{AllByRecursion}
+use Rattle.std.specs.List.{All}
 use Rattle.std.specs.Prelude.{slice_index_or}
 use Rattle.std.specs.Bool.{if◌then◌else◌}
 use Rattle.std.proofs.lemmas.Bool.{cases_eq}
 use Rattle.std.proofs.lemmas.List.{get_or-set_other}
+use Rattle.std.proofs.lemmas.List.Elements.{All-head, All-tail}
 use Rattle.std.proofs.lemmas.List.Sums.{sum_by-cons}
 use Rattle.std.proofs.Math.Nat.{mul-le-mul_left, mul-le-mul_right, pow-suc, pow-zero, one-le-pow}
 use Rattle.game_model.specs.declared.game.Edge.{Edge}
@@ -14,7 +15,6 @@ use Rattle.game_model.specs.declared.game.Side.TheVariants.{Max, Min}
 use Rattle.game_model.specs.Game.{Distribution, no_distribution, no_edge, choices_of, choice_of}
 use Rattle.game_model.specs.Query.{Query, IsQuery, states, is_goal, is_dead, side_at}
 use Rattle.game_model.specs.Values.{optimum, weighted_sum, denominator, numerator, numerator_of}
-use Rattle.game_model.proofs.Each.{AllByRecursion-weaker, AllByRecursion-at, AllByRecursion-both}
 use Rattle.game_model.proofs.Choices.{IsChoiceOf, AreChoicesOf, AreChoicesOf-choices_of, denominator-pos}
 use Rattle.game_model.proofs.Best.{optimum-each}
 use Rattle.game_model.proofs.Rises.{numerator_of-rises, numerator_of-goal}
@@ -47,27 +47,42 @@ misses-later q k g (suc n) t h =
     (rw (pow-suc D (k + n), pow-suc D n)
     (omega (arith, mul-le-mul_right D before, numerator_of-rises q (choices_of q.game) (k + n) t)))
 
--- a sum over values that miss p by at most h
-weighted_sum-misses : (v : ℕ → ℕ) (p h : ℕ) (edges : List Edge)
-    → AllByRecursion (λ e. (1 ≤ e.weight) × (p ≤ v e.to + h)) edges
+-- an edge to a value that misses p by at most h
+abbrev MissesBy : (ℕ → ℕ) → ℕ → ℕ → Edge → Type 0
+MissesBy v p h e = (1 ≤ e.weight) × (p ≤ v e.to + h)
+
+-- a sum over such values
+weighted_sum-misses : (v : ℕ → ℕ) (p h : ℕ) (edges : List Edge) → All (MissesBy v p h) edges
     → sum_by (λ e. e.weight) edges * p ≤ weighted_sum v edges + sum_by (λ e. e.weight) edges * h
 weighted_sum-misses v p h [] each = omega arith
 weighted_sum-misses v p h (e ∷ es) each =
     rw (sum_by-cons (λ (d : Edge). d.weight * v d.to) e es, sum_by-cons (λ (d : Edge). d.weight) e es)
-    (omega (arith, weighted_sum-misses v p h es each.1, mul-le-mul_left e.weight each.0.1))
+    (omega (
+      arith,
+      weighted_sum-misses v p h es (All-tail (MissesBy v p h) e es each),
+      mul-le-mul_left e.weight (All-head (MissesBy v p h) e es each).1,
+    ))
 
 -- and by g less at one destination
 weighted_sum-nearer : (v : ℕ → ℕ) (p h g : ℕ) (edges : List Edge) (i : ℕ)
-    → AllByRecursion (λ e. (1 ≤ e.weight) × (p ≤ v e.to + h)) edges
-    → i < length edges → p + g ≤ v (get_or edges i no_edge).to + h
+    → All (MissesBy v p h) edges → i < length edges → p + g ≤ v (get_or edges i no_edge).to + h
     → sum_by (λ e. e.weight) edges * p + g ≤ weighted_sum v edges + sum_by (λ e. e.weight) edges * h
 weighted_sum-nearer v p h g [] i each l one = absurd (omega arith)
 weighted_sum-nearer v p h g (e ∷ es) zero each l one =
     rw (sum_by-cons (λ (d : Edge). d.weight * v d.to) e es, sum_by-cons (λ (d : Edge). d.weight) e es)
-    (omega (arith, weighted_sum-misses v p h es each.1, mul-le-mul_left e.weight one, mul-le-mul_right g each.0.0))
+    (omega (
+      arith,
+      weighted_sum-misses v p h es (All-tail (MissesBy v p h) e es each),
+      mul-le-mul_left e.weight one,
+      mul-le-mul_right g (All-head (MissesBy v p h) e es each).0,
+    ))
 weighted_sum-nearer v p h g (e ∷ es) (suc i) each l one =
     rw (sum_by-cons (λ (d : Edge). d.weight * v d.to) e es, sum_by-cons (λ (d : Edge). d.weight) e es)
-    (omega (arith, weighted_sum-nearer v p h g es i each.1 (omega arith) one, mul-le-mul_left e.weight each.0.1))
+    (omega (
+      arith,
+      weighted_sum-nearer v p h g es i (All-tail (MissesBy v p h) e es each) (omega arith) one,
+      mul-le-mul_left e.weight (All-head (MissesBy v p h) e es each).1,
+    ))
 
 scaled-nearer : (r w d x p g h : ℕ) → r * w ≡ d → 1 ≤ r → w * p + g ≤ x + w * h → d * p + g ≤ r * x + d * h
 scaled-nearer r w d x p g h same some sums =
@@ -82,14 +97,12 @@ choice-nearer : (q : Query) (gone set : List Bool) (v : ℕ → ℕ) (p h g : �
 choice-nearer q gone set v p h g m positive fits outer inner serve =
     let both = serves-both (gone_excluded gone) set m serve in
     let one = meets-successor set m both.1 in
-    let edges : AllByRecursion (λ (e : Edge). (1 ≤ e.weight) × (p ≤ v e.to + h)) m.edges =
-    AllByRecursion-both (λ (e : Edge). 1 ≤ e.weight) (λ (e : Edge). p ≤ v e.to + h) m.edges fits.weights
-    (AllByRecursion-weaker (λ (e : Edge). (e.to < length q.game) × (slice_index_or gone e.to false ≡ false)) _
-    (λ e facts. outer e.to facts.0 facts.1) m.edges
-    (AllByRecursion-both (λ (e : Edge). e.to < length q.game) (λ (e : Edge). slice_index_or gone e.to false ≡ false)
-    m.edges fits.inside (any-none (λ (e : Edge). slice_index_or gone e.to false) m.edges both.0))) in
-    let there : p + g ≤ v (get_or m.edges one.0 no_edge).to + h = inner (get_or m.edges one.0 no_edge).to
-    (AllByRecursion-at (λ (e : Edge). e.to < length q.game) m.edges one.0 no_edge one.1 fits.inside) one.2 in
+    let kept : All (λ (e : Edge). slice_index_or gone e.to false ≡ false) m.edges =
+    any-none (λ (e : Edge). slice_index_or gone e.to false) m.edges both.0 in
+    let edges : All (MissesBy v p h) m.edges =
+    λ i d l. (fits.weights i d l, outer (get_or m.edges i d).to (fits.inside i d l) (kept i d l)) in
+    let there : p + g ≤ v (get_or m.edges one.0 no_edge).to + h =
+    inner (get_or m.edges one.0 no_edge).to (fits.inside one.0 no_edge one.1) one.2 in
     let sums : m.total * p + g ≤ weighted_sum v m.edges + m.total * h =
     subst (λ w. w * p + g ≤ weighted_sum v m.edges + w * h) fits.sums
     (weighted_sum-nearer v p h g m.edges one.0 edges one.1 there) in
@@ -109,22 +122,25 @@ side-nearer q gone set v p h g s Max is_side positive chosen inside outer inner 
     let one = any-place (serves (gone_excluded gone) set) (choices_of q.game s) no_distribution drawn in
     let here : denominator q.game * p + g ≤ f (choice_of q.game s one.0) + denominator q.game * h =
     choice-nearer q gone set v p h g (choice_of q.game s one.0) positive
-    (AllByRecursion-at (IsChoiceOf q.game) (choices_of q.game s) one.0 no_distribution one.1 (chosen.each s))
-    outer inner one.2 in
+    (chosen.each s one.0 no_distribution one.1) outer inner one.2 in
     let most : f (choice_of q.game s one.0) ≤ optimum Max f (choices_of q.game s) =
     optimum-each f (choices_of q.game s) one.0 no_distribution one.1 in
     subst (λ side. denominator q.game * p + g ≤ optimum side f (choices_of q.game s) + denominator q.game * h)
     (sym is_side) (omega (arith, here, most))
 side-nearer q gone set v p h g s Min is_side positive chosen inside outer inner drawn =
     let f : Distribution → ℕ = λ m. denominator q.game / m.total * weighted_sum v m.edges in
+    let serving : All (λ m. serves (gone_excluded gone) set m ≡ true) (choices_of q.game s) =
+    all-each (serves (gone_excluded gone) set) (choices_of q.game s) drawn in
     let all : denominator q.game * p + g + 0 * optimum (side_at q s) f (choices_of q.game s)
     ≤ 1 * optimum (side_at q s) f (choices_of q.game s) + denominator q.game * h =
     optimum-affine (side_at q s) f f (denominator q.game * p + g) 0 1 (denominator q.game * h) (choices_of q.game s)
     (chosen.some s inside)
-    (AllByRecursion-weaker (λ m. IsChoiceOf q.game m × (serves (gone_excluded gone) set m ≡ true)) _ (λ m fact.
-    omega (arith, choice-nearer q gone set v p h g m positive fact.0 outer inner fact.1)) (choices_of q.game s)
-    (AllByRecursion-both (IsChoiceOf q.game) (λ m. serves (gone_excluded gone) set m ≡ true) (choices_of q.game s)
-    (chosen.each s) (all-each (serves (gone_excluded gone) set) (choices_of q.game s) drawn))) in
+    (λ c d l.
+    omega (
+      arith,
+      choice-nearer q gone set v p h g (get_or (choices_of q.game s) c d) positive (chosen.each s c d l) outer inner
+          (serving c d l),
+    )) in
     omega (arith, all)
 
 marked-nearer : (goal dead : Bool) (top x a b : ℕ) → dead ≡ false → a ≤ top + b → a ≤ x + b
