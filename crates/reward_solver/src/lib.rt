@@ -1,9 +1,10 @@
 //! This crate finds tables of expected rewards in floating point, for a check to accept or to refuse.
 //!
-//! [`find_reward_bounds`] looks at the game from the minimiser's side, who wants to come to a goal cheaply. A value of so
-//! many units of reward is there 10^15 less these units: the unit at a goal, less what the choices on the way cost. So
-//! `plan_solver::find_costly_bounds` finds both tables. The minimiser begins with choices that lead to a goal, and a
-//! choice is exchanged only for one that gains, so it goes on to reach one: a loop that pays nothing does not hold it.
+//! [`find_reward_bounds`] looks at the game from the minimiser's side, where rewards are costs on the way to a goal. A
+//! value of so many units is 10^15 less these units there: the unit at a goal, less what the choices on the way cost.
+//! So `plan_solver::find_costly_bounds` finds both tables. The minimiser begins with choices that lead to a goal, and a
+//! choice is exchanged only for one that gains. So the minimiser goes on to reach one, and no loop that pays nothing
+//! keeps it.
 //!
 //! Values are in units of 10^-places. The places are the most for which the greatest value is at most 10^15 units; they
 //! are found by solving again with more places.
