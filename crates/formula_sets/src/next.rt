@@ -39,11 +39,9 @@ pub fn units_of(alloc: Global, marks: &[bool]) -> Result<Vec<u64>, AllocError>
     ensures { IfOk result (λ table. table.items ≡ at_states (λ s. if slice_index_or marks.now s false then unit else 0)
         (length marks.now)) }
 {
-    let mut table = Vec::with_capacity(alloc, marks.len())?;
-    for place in 0..marks.len() {
-        table.push(units_at(marks[place]))?;
-    }
-    Ok(table)
+    (0..marks.len())
+        .map(|place| units_at(marks[place]))
+        .collect(alloc)
 }
 
 // Makes the table of probability 1 where the right side holds, and otherwise 0.

@@ -36,11 +36,9 @@ pub fn sides_of(
     ensures { IfOk result (λ v. v.items ≡ at_states (side_of
         (tree_of formula.now).coalition formula.now.bound owners.now) states) }
 {
-    let mut sides = Vec::with_capacity(alloc, states as usize)?;
-    for state in 0..states {
-        sides.push(side_at_state(owners, &formula.coalition, &formula.bound, state))?;
-    }
-    Ok(sides)
+    (0..states)
+        .map(|state| side_at_state(owners, &formula.coalition, &formula.bound, state))
+        .collect(alloc)
 }
 
 // Marks where neither side holds, if the right side holds at the goals.

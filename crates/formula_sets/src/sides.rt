@@ -14,12 +14,7 @@ use label_reader::Owners;
 fn is_member_of(names: &[Name], name: &[u8]) -> bool
     ensures { result ≡ is_member names.now name.now }
 {
-    for other in names {
-        if name == other.as_bytes() {
-            return true;
-        }
-    }
-    false
+    names.iter().any(|other| name == other.as_bytes())
 }
 
 /// Returns the side that chooses at a state.
@@ -44,12 +39,7 @@ pub fn side_at_state(owners: &Owners, coalition: &Option<Names>, bound: &Bound, 
 fn first_stranger<'a>(owners: &Owners, names: &'a [Name]) -> Option<&'a Name>
     ensures { option_copied result ≡ unknown_player owners.now names.now }
 {
-    for name in names {
-        if !owners.knows(name.as_bytes()) {
-            return Some(name);
-        }
-    }
-    None
+    names.iter().find(|name| !owners.knows(name.as_bytes()))
 }
 
 // Returns the first unknown player of a coalition.
