@@ -1,9 +1,9 @@
 -- What tables of bounds decide, and when they pass.
-use Rattle.std.proofs.Common.{◌≡◌, ℕ, ◌+◌, ◌*◌, ◌^◌, ◌<◌, ◌≤◌, ◌↔◌, Bool, true, false, List, [], ◌∷◌, ◌++◌, length}
-use Rattle.std.proofs.Common.{below_more, arith, sym, subst, ◌∙◌, inl, inr}
+use Rattle.std.proofs.Common.{◌≡◌, ℕ, ◌+◌, ◌*◌, ◌^◌, ◌<◌, ◌≤◌, ◌↔◌, Bool, true, false, List, []}
+use Rattle.std.proofs.Common.{arith, sym, subst, ◌∙◌, inl, inr}
 use Rattle.std.specs.Prelude.{slice_index, slice_index_or}
 use Rattle.std.proofs.lemmas.Bool.{cases_Bool}
-use Rattle.std.proofs.lemmas.List.{ext_get_or, get_or_append_left, get_or_push}
+use Rattle.std.proofs.lemmas.List.{ext_get_or}
 use Rattle.std.proofs.Math.Nat.{one-le-pow}
 use Rattle.game_model.specs.Query.{Query, IsQuery, states}
 use Rattle.game_model.specs.Values.{denominator, numerator}
@@ -161,12 +161,3 @@ module _ (q : Query) (sure zero : List Bool) (none : IsZeroSet q zero) where
           upper-none (slice_index_or zero s false) (slice_index_or sure s false) unmarked,
         )
       ]
-
--- 4. Tables that are filled state by state.
-
-pub each-more : (f : ℕ → ℕ) (xs : List ℕ) (y n : ℕ) → length xs ≡ n → ((s : ℕ) → s < n → slice_index xs s ≡ f s)
-    → y ≡ f n → (s : ℕ) → s < n + 1 → slice_index (xs ++ y ∷ []) s ≡ f s
-each-more f xs y n many each last =
-    below_more (λ s. slice_index (xs ++ y ∷ []) s ≡ f s) n
-    (λ s less. get_or_append_left xs (y ∷ []) 0 s (omega (arith, less, many)) ∙ each s less)
-    (get_or_push xs y 0 n many ∙ last)

@@ -34,11 +34,9 @@ pub fn lower_table(
     requires zero { length zero.now ≡ states question.now }
     ensures { IfOk result (λ table. IsTable question.now (lower_bound sure.now zero.now candidate.now) table.items) }
 {
-    let states = question.game().states();
-    let mut table = Vec::with_capacity(alloc, states as usize)?;
-    for state in 0..states {
-        table.push(lower_entry(sure, zero, candidate, state))?;
-    }
+    let table = (0..question.game().states())
+        .map(|state| lower_entry(sure, zero, candidate, state))
+        .collect(alloc)?;
     Ok(table)
 }
 
@@ -73,11 +71,9 @@ pub fn upper_table(
     requires zero { length zero.now ≡ states question.now }
     ensures { IfOk result (λ table. IsTable question.now (upper_bound sure.now zero.now candidate.now) table.items) }
 {
-    let states = question.game().states();
-    let mut table = Vec::with_capacity(alloc, states as usize)?;
-    for state in 0..states {
-        table.push(upper_entry(sure, zero, candidate, state))?;
-    }
+    let table = (0..question.game().states())
+        .map(|state| upper_entry(sure, zero, candidate, state))
+        .collect(alloc)?;
     Ok(table)
 }
 
