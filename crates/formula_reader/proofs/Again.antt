@@ -16,7 +16,7 @@ use Rattle.formula_reader.proofs.HeadsAgain.{coalition_again, bound_again, no_co
 use Rattle.formula_reader.proofs.StatesAgain.{sides_again}
 use Rattle.formula_tokens.proofs.Cutting.{cut_read}
 
-spans_all : (us : List (List ℕ)) (ts : Tokens) → AreTokens ts us → (place : ℕ) × Spans ts us (Finish place)
+pub spans_all : (us : List (List ℕ)) (ts : Tokens) → AreTokens ts us → (place : ℕ) × Spans ts us (Finish place)
 spans_all [] (Finish place) a = (place, refl)
 spans_all (u ∷ us) (Finish place) a = absurd a
 spans_all us (Broken fault) a = absurd a

@@ -25,10 +25,11 @@ ends_with (u ∷ us) ts place s =
     let P : Tokens → Type 0 = λ t. AreTokens t (u ∷ us) in
     subst P (sym s.2) (refl, ends_with us s.1 place s.3)
 
-finished_ok : (tree f : Tree) (ts : Tokens) → finished tree ts ≡ Ok f → (place : ℕ) × (ts ≡ Finish place) × (tree ≡ f)
-finished_ok tree f (Finish place) e = (place, refl, cc e)
-finished_ok tree f (Broken fault) e = cc e
-finished_ok tree f (Then place spelling rest) e = cc e
+pub finished_ok : {X : Type 0} (x y : X) (ts : Tokens) → finished x ts ≡ Ok y
+    → (place : ℕ) × (ts ≡ Finish place) × (x ≡ y)
+finished_ok x y (Finish place) e = (place, refl, cc e)
+finished_ok x y (Broken fault) e = cc e
+finished_ok x y (Then place spelling rest) e = cc e
 
 -- the tokens of a formula up to the end of the text
 record Whole (ts : Tokens) (f : Tree) : Type 0 where

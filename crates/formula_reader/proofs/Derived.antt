@@ -281,6 +281,12 @@ finds (suc room) = record {
   path = λ token p rest o e. path_opened room (finds room) token p rest o e;
 }
 
+-- a state formula that is read is derived
+pub state_found : (room : ℕ) (ts : Tokens) (x : State) (rest : Tokens)
+    → implied (unary (nested room)) ts ≡ Ok (x, rest) → Found (IsState room) ts x rest
+state_found room ts x rest e =
+    implied_found room (unary (nested room)) (unary_found room (finds room)) ts x rest e
+
 -- what an operand leaves has no more tokens
 pub operand_shortens : (level : Level) (room : ℕ) (ts : Tokens) (x : State) (rest : Tokens)
     → operand_of level (unary (nested room)) ts ≡ Ok (x, rest) → count_of rest ≤ count_of ts

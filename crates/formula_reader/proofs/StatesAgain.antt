@@ -184,3 +184,8 @@ pub sides_again : (room : ℕ) (us : List (List ℕ)) (kind : PathKind) (x y : S
     → sides (nested (suc room)) ts ≡ Ok (path_of kind x y, rest)
 sides_again room us kind x y d ts rest s =
     sides_from room us (path_of kind x y) (λ t r u c. path_again room us kind x y d t r u c) ts rest s
+
+-- a state formula that the rules derive, where no operator stands behind it
+pub state_again : (room : ℕ) (us : List (List ℕ)) (x : State) → IsState room us x
+    → Reads (implied (unary (nested room))) us x
+state_again room us x d = reads_from room us x (λ t r u a o. state_stands room us x d t r u a o)

@@ -233,11 +233,11 @@ nested (suc room) = record { state = inside_of (nested room); path = bracketed (
 
 -- formula = [ coalition ] bound "[" path "]", and no token behind it
 
--- The tree is that of a formula, unless a token comes behind it.
-abbrev pub finished : Tree → Tokens → Result Tree FormulaFault
-finished tree (Finish place) = Ok tree
-finished tree (Broken fault) = Err fault
-finished tree (Then place spelling rest) = Err (fault_at place Unexpected)
+-- The text ends behind what was read, or there is a fault.
+abbrev pub finished : {X : Type 0} → X → Tokens → Result X FormulaFault
+finished x (Finish place) = Ok x
+finished x (Broken fault) = Err fault
+finished x (Then place spelling rest) = Err (fault_at place Unexpected)
 
 -- This reads the sides of a formula and its end. Its `[` is not among those that are counted.
 abbrev pub behind_bound : Option (List (List ℕ)) → Bound → Tokens → Result Tree FormulaFault

@@ -17,8 +17,8 @@ mod limits;
 mod read;
 mod states;
 
-pub use formula::{Bound, Formula, Names, PathKind, StateFormula};
+pub use formula::{Bound, Comparison, Formula, Names, PathKind, StateFormula};
 pub use heads::read_coalition;
 pub use limits::{MOST_NESTED, MOST_STEPS};
 pub use read::read_formula;
-pub use states::{ReadState, read_state};
+pub use states::{ReadState, begins_formula, read_state, unquoted};

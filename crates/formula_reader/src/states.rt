@@ -33,15 +33,16 @@ fn plain_state<'a>(alloc: Global, token: Token<'a>) -> ReadState<'a>
     } else if token.is("false") {
         Ok((StateFormula::False, token.after))
     } else if let [b'"', ..] = token.spelling {
-        let name = label(alloc, token.spelling)?;
+        let name = unquoted(alloc, token.spelling)?;
         Ok((StateFormula::Label(name), token.after))
     } else {
         Err(token.fault(FormulaCause::Unexpected))
     }
 }
 
-// Returns the name between the first byte and the last.
-fn label(alloc: Global, spelling: &[u8]) -> Result<Name, FormulaFault>
+/// Returns the name that a quoted name quotes: the bytes between the first and the last. The only error is that memory
+/// ran out.
+pub fn unquoted(alloc: Global, spelling: &[u8]) -> Result<Name, FormulaFault>
     ensures { MatchResult result (λ name. name ≡ unquoted spelling.now) IsOutOfMemory }
 {
     let name = match spelling {
@@ -97,7 +98,8 @@ fn unary_state<'a>(alloc: Global, room: u32, cursor: Cursor<'a>) -> ReadState<'a
     }
 }
 
-fn begins_formula(token: &Token<'_>) -> bool
+/// Returns whether the token begins a formula inside: `P`, `Pmax`, `Pmin` or `<<`.
+pub fn begins_formula(token: &Token<'_>) -> bool
     ensures { result ≡ begins_formula (token_of token.now) }
 {
     token.is("P") || token.is("Pmax") || token.is("Pmin") || token.is("<<")

@@ -84,13 +84,14 @@ fn leads_out(game: &Game, finite: &Marks, state: u32, choice: u32) -> bool
     false
 }
 
-/// Replaces each value by what the unit is above it.
-pub fn complement(values: &mut [u64])
-    requires { All (λ v. v ≤ unit) values.old }
-    ensures many { length values.new ≡ length values.old }
-    ensures units { All (λ v. v ≤ unit) values.new }
+/// Returns what the unit is above each value.
+pub fn complement(alloc: Global, values: &[u64]) -> Result<Vec<u64>, OutOfMemory>
+    ensures many { IfOk result (λ list. vec_len list ≡ length values.now) }
+    ensures units { IfOk result (λ list. All (λ v. v ≤ unit) list.items) }
 {
-    for value in values {
-        *value = UNIT - *value;
-    }
+    let list = values
+        .iter()
+        .map(|value| UNIT.saturating_sub(*value))
+        .collect(alloc)?;
+    Ok(list)
 }

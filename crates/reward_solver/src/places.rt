@@ -36,15 +36,18 @@ impl Places {
                 most: self.now - 1,
             };
         }
-        let mut places = self;
+        let mut now = self.now;
         let mut value = greatest;
         for _ in 0..MOST_PLACES {
-            if places.now >= places.most || places.now >= MOST_PLACES || value > UNIT / 10 {
+            if now >= self.most.min(MOST_PLACES) || value > UNIT / 10 {
                 break;
             }
-            places.now += 1;
+            now += 1;
             value *= 10;
         }
-        places
+        Places {
+            now,
+            most: self.most,
+        }
     }
 }

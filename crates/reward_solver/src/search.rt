@@ -1,12 +1,10 @@
 //! This module solves a question of rewards with more and more places.
 
-ghost use Rattle.std.specs.Prelude.{◌≡◌, ◌≤◌, IfOk, length, vec_len};
+ghost use Rattle.std.specs.Prelude.{◌≡◌, ◌≤◌, IfOk, length};
 ghost use Rattle.game_model.specs.Query.{states};
-ghost use Rattle.plan_solver.specs.Tables.{IsTable};
 ghost use Rattle.predecessors.specs.Lists.{ArePredecessors};
+ghost use Rattle.reward_solver.specs.Candidates.{AreCandidates};
 ghost use Rattle.reward_units.specs.Units.{most_places};
-ghost use Rattle.reward_units.specs.Rounded.{exact_in, paid_units, ArePaidUnits};
-ghost use Rattle.reward_units.specs.declared.rounded.Rounding.TheVariants.{Down, Up};
 
 use crate::costs::{complement, costs_of, infinite_states};
 use crate::places::Places;
@@ -53,15 +51,7 @@ pub fn find_reward_bounds(
 ) -> Result<RewardCandidates, OutOfMemory>
     requires predecessors { ArePredecessors question.now.game predecessors.now }
     requires finite { length finite.now ≡ states question.now }
-    ensures places { IfOk result (λ c. c.places ≤ most_places) }
-    ensures low { IfOk result (λ c. ArePaidUnits question.now.game
-        (paid_units Down (exact_in question.now.game rewards.now) c.places) c.low.items) }
-    ensures high { IfOk result (λ c. ArePaidUnits question.now.game
-        (paid_units Up (exact_in question.now.game rewards.now) c.places) c.high.items) }
-    ensures lower { IfOk result (λ c. IsTable (states question.now) c.lower.items) }
-    ensures upper { IfOk result (λ c. IsTable (states question.now) c.upper.items) }
-    ensures choices { IfOk result (λ c. vec_len c.choices ≡ states question.now) }
-    ensures replies { IfOk result (λ c. vec_len c.replies ≡ states question.now) }
+    ensures { IfOk result (λ c. AreCandidates question.now rewards.now c) }
 {
     let turned = turn(alloc, question)?;
     let infinite = infinite_states(alloc, question, finite)?;
@@ -76,7 +66,7 @@ pub fn find_reward_bounds(
     let mut places = Places::first();
     let mut found = asked.solve(alloc, places.now)?;
     for _ in 1..TURNS {
-        let next = places.after(greatest(finite, &found.upper));
+        let next = places.after(greatest(question, finite, &found.upper));
         if next == places {
             break;
         }
@@ -105,15 +95,7 @@ impl Asked<'_, '_> {
     /// Solves the question in units of so many places.
     fn solve(&self, alloc: Global, places: u32) -> Result<RewardCandidates, OutOfMemory>
         requires { places ≤ most_places }
-        ensures places { IfOk result (λ c. c.places ≡ places) }
-        ensures low { IfOk result (λ c. ArePaidUnits self.now.question.now.game
-            (paid_units Down (exact_in self.now.question.now.game self.now.rewards.now) places) c.low.items) }
-        ensures high { IfOk result (λ c. ArePaidUnits self.now.question.now.game
-            (paid_units Up (exact_in self.now.question.now.game self.now.rewards.now) places) c.high.items) }
-        ensures lower { IfOk result (λ c. IsTable (states self.now.question.now) c.lower.items) }
-        ensures upper { IfOk result (λ c. IsTable (states self.now.question.now) c.upper.items) }
-        ensures choices { IfOk result (λ c. vec_len c.choices ≡ states self.now.question.now) }
-        ensures replies { IfOk result (λ c. vec_len c.replies ≡ states self.now.question.now) }
+        ensures { IfOk result (λ c. AreCandidates self.now.question.now self.now.rewards.now c) }
     {
         let game = self.question.game();
         let low = rewards_in_units(alloc, game, self.rewards, places, Rounding::Down)?;
@@ -131,10 +113,8 @@ impl Asked<'_, '_> {
             self.infinite,
             costs,
         )?;
-        let mut lower = found.upper;
-        let mut upper = found.lower;
-        complement(&mut lower);
-        complement(&mut upper);
+        let lower = complement(alloc, &found.upper)?;
+        let upper = complement(alloc, &found.lower)?;
         Ok(RewardCandidates {
             places,
             low,
@@ -148,13 +128,13 @@ impl Asked<'_, '_> {
 }
 
 /// Returns the greatest entry of a finite state.
-fn greatest(finite: &Marks, values: &[u64]) -> u64
-    requires { length finite.now ≡ length values.now }
+fn greatest(question: &Question, finite: &Marks, values: &[u64]) -> u64
+    requires { length finite.now ≡ states question.now }
 {
     let mut most = 0;
-    for state in 0..values.len() {
-        if finite.has(state as u32) {
-            most = most.max(values[state]);
+    for state in 0..question.game().states() {
+        if finite.has(state) {
+            most = most.max(values.get(state as usize).copied().unwrap_or(0));
         }
     }
     most

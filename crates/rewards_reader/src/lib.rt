@@ -11,7 +11,7 @@
 //! [`read_rewards`] gives the rewards, or the first fault of the text with its line. [`read_rewards_from`] reads a file
 //! on a shelf, a piece at a time, and gives the same answer in whatever pieces it comes. `specs/Lines.antt` says what a
 //! line says, `specs/Texts.antt` which fault a text has, and `specs/Rewards.antt` which rewards its lines give. A
-//! reward is exact: [`Amount`] is a fraction in lowest terms.
+//! reward is exact: [`Amount`] is a fraction in lowest terms. [`read_amount`] reads one that stands alone.
 #![tactic(auto)]
 
 mod amount;
@@ -31,5 +31,6 @@ pub use amount::Amount;
 pub use fault::{RewardsCause, RewardsEnd, RewardsFault};
 pub use file::read_rewards_from;
 pub use limits::{MOST_LINES, MOST_REWARD};
+pub use number::read_amount;
 pub use reader::read_rewards;
 pub use table::RewardTable;

@@ -11,7 +11,8 @@ use crate::large::{large_decimal, large_quotient};
 use fractions::{NumberFault, read_number};
 use numerals::{Written, read_spelling};
 
-/// Reads the reward that a text spells, or gives its first fault. Only a number above 2 is taken apart a second time.
+/// Reads the reward that a text spells, or gives its first fault: a `Number`, or `TooLarge`. Only a number above 2 is
+/// taken apart a second time. The answer is what the text denotes: `laws::amounts_are_those_that_a_text_denotes`.
 pub fn read_amount(text: &[u8]) -> Result<Amount, RewardsCause>
     ensures { result ≡ amount_said text.now }
 {

@@ -13,7 +13,7 @@ use Rattle.formula_reader.specs.Rules.{IsWord, IsCoalition, IsComparison, IsBoun
 use Rattle.formula_reader.specs.Rules.{reach_within, until, until_within, next, always}
 use Rattle.rpatl_syntax.specs.Spellable.{IsWholeWord, HasWords, IsShare, HasShare, HasThreshold, HasKind}
 use Rattle.rpatl_syntax.specs.Spelling.{fraction_spelling}
-use Rattle.rpatl_syntax.proofs.Numerals.{fraction_text, steps_text}
+use Rattle.rpatl_syntax.proofs.Numerals.{fraction_text, share_digits, share_denotes, steps_text}
 use Rattle.rpatl_syntax.proofs.PrintedTokens.{team_tokens, bound_tokens, until_tokens, kind_tokens}
 
 -- 1. Coalitions and bounds.
@@ -25,8 +25,9 @@ team_derived (Some names) w = (refl, All-weaker IsWholeWord IsWord (λ name is. 
 share_derived : (sign : List ℕ) (p : Fraction) → IsShare p
     → IsComparison sign (codes "P" ∷ sign ∷ fraction_spelling p ∷ []) p
 share_derived sign p is =
-    let t = fraction_text p is in
-    (fraction_spelling p, refl, record { number = ap is_number t.whole ∙ t.digit; value = t.denotes; small = is.small })
+    let t = fraction_text p (share_digits p is) in
+    let number = ap is_number t.whole ∙ t.digit in
+    (fraction_spelling p, refl, record { number = number; value = share_denotes p is; small = is.small })
 
 pub bound_derived : (b : Bound) → HasShare b → IsBound (bound_tokens b) b
 bound_derived (AtLeast p) is = share_derived (codes ">=") p is

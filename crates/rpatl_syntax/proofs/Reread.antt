@@ -79,7 +79,7 @@ tokens_derived f is = record {
 
 -- 4. What is read from a spelling.
 
-spelling_denotes : (f : Tree) → IsSpellable f → length (spelling f) ≤ longest → DenotesFormula (spelling f) f
+pub spelling_denotes : (f : Tree) → IsSpellable f → length (spelling f) ≤ longest → DenotesFormula (spelling f) f
 spelling_denotes f is short = record {
   short = short;
   tokens = formula_tokens f;

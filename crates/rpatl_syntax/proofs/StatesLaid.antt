@@ -23,21 +23,21 @@ use Rattle.formula_tokens.proofs.Fronts.{name_reads}
 use Rattle.rpatl_syntax.proofs.Laying.{Lays, Ends, spaced, lays_append, lays_token, lays_blank, lays_spaced, lays_open}
 use Rattle.rpatl_syntax.proofs.Laying.{lays_close, lays_not, lays_bracket, lays_names, lays_number, lays_above}
 use Rattle.rpatl_syntax.proofs.Laying.{lays_below}
-use Rattle.rpatl_syntax.proofs.Numerals.{fraction_text, steps_text}
+use Rattle.rpatl_syntax.proofs.Numerals.{HasFewDigits, fraction_text, share_digits, steps_text}
 use Rattle.rpatl_syntax.proofs.PrintedParts.{threshold_share}
 use Rattle.rpatl_syntax.proofs.PrintedTokens.{team_tokens, bound_tokens, until_tokens, kind_tokens, tokens_with}
 use Rattle.rpatl_syntax.proofs.PrintedTokens.{tokens_in, state_tokens}
 
 -- 1. Coalitions and bounds.
 
-lays_nothing : (rest : List ℕ) → Lays [] [] rest
+pub lays_nothing : (rest : List ℕ) → Lays [] [] rest
 lays_nothing rest = λ place. let e : place ≡ place + length {A = ℕ} [] = omega arith in ap (λ p. tokens_from p 0 rest) e
 
 lays_end_of_team : (rest : List ℕ) → Lays (codes ">> ") (codes ">>" ∷ []) rest
 lays_end_of_team rest = lays_append (codes ">>") (32 ∷ []) (codes ">>" ∷ []) [] rest
     (lays_token 62 (62 ∷ []) (32 ∷ rest) refl) (lays_blank rest)
 
-lays_team : (team : Option (List (List ℕ))) → HasWords team → (rest : List ℕ)
+pub lays_team : (team : Option (List (List ℕ))) → HasWords team → (rest : List ℕ)
     → Lays (coalition_spelling team) (team_tokens team) rest
 lays_team None w rest = lays_nothing rest
 lays_team (Some []) w rest = lays_append (codes "<<") (codes ">> ") (codes "<<" ∷ []) (codes ">>" ∷ []) rest
@@ -49,21 +49,27 @@ lays_team (Some (name ∷ others)) w rest =
     (lays_append (names_spelling (name ∷ others)) (codes ">> ") (with_commas (name ∷ others)) (codes ">>" ∷ []) rest
     (lays_names name others w (codes ">> " ++ rest) refl) (lays_end_of_team rest))
 
--- `P`, a sign that a digit ends, and a number before a blank
+-- a sign that a digit ends, and a number before a blank
+pub lays_threshold : (sign : List ℕ) (p : Fraction) (rest : List ℕ) → HasFewDigits p
+    → ((d : ℕ) (more : List ℕ) → is_digit d ≡ true → Lays sign (sign ∷ []) (d ∷ more))
+    → Lays (sign ++ fraction_spelling p) (sign ∷ fraction_spelling p ∷ []) (32 ∷ rest)
+lays_threshold sign p rest is lays =
+    let t = fraction_text p is in
+    let P : List ℕ → Type 0 = λ text. Lays (sign ++ text) (sign ∷ text ∷ []) (32 ∷ rest) in
+    subst P (sym t.whole)
+    (lays_append sign (t.first ∷ t.others) (sign ∷ []) ((t.first ∷ t.others) ∷ []) (32 ∷ rest)
+    (lays t.first (t.others ++ 32 ∷ rest) t.digit) (lays_number t.first t.others rest t.digit t.rest))
+
+-- `P` before them
 lays_comparison : (sign : List ℕ) (p : Fraction) (rest : List ℕ) → IsShare p
     → ((d : ℕ) (more : List ℕ) → is_digit d ≡ true → Lays sign (sign ∷ []) (d ∷ more))
     → ((more : List ℕ) → Lays (codes "P") (codes "P" ∷ []) (sign ++ more))
     → Lays (codes "P" ++ (sign ++ fraction_spelling p)) (codes "P" ∷ sign ∷ fraction_spelling p ∷ []) (32 ∷ rest)
 lays_comparison sign p rest is lays word =
-    let t = fraction_text p is in
-    let P : List ℕ → Type 0 = λ text. Lays (codes "P" ++ (sign ++ text)) (codes "P" ∷ sign ∷ text ∷ []) (32 ∷ rest) in
     let Q : List ℕ → Type 0 = λ more. Lays (codes "P") (codes "P" ∷ []) more in
-    subst P (sym t.whole)
-    (lays_append (codes "P") (sign ++ (t.first ∷ t.others))
-    (codes "P" ∷ []) (sign ∷ (t.first ∷ t.others) ∷ []) (32 ∷ rest)
-    (subst Q (sym (append_assoc sign (t.first ∷ t.others) (32 ∷ rest))) (word ((t.first ∷ t.others) ++ 32 ∷ rest)))
-    (lays_append sign (t.first ∷ t.others) (sign ∷ []) ((t.first ∷ t.others) ∷ []) (32 ∷ rest)
-    (lays t.first (t.others ++ 32 ∷ rest) t.digit) (lays_number t.first t.others rest t.digit t.rest)))
+    lays_append (codes "P") (sign ++ fraction_spelling p) (codes "P" ∷ []) (sign ∷ fraction_spelling p ∷ [])
+    (32 ∷ rest) (subst Q (sym (append_assoc sign (fraction_spelling p) (32 ∷ rest)))
+    (word (fraction_spelling p ++ 32 ∷ rest))) (lays_threshold sign p rest (share_digits p is) lays)
 
 lays_bound : (b : Bound) → HasShare b → (rest : List ℕ) → Lays (bound_spelling b) (bound_tokens b) (32 ∷ rest)
 lays_bound (AtLeast p) is rest = lays_comparison (codes ">=") p rest is
@@ -83,7 +89,7 @@ lays_bound AskMin is rest =
 
 -- 2. Labels, brackets and signs.
 
-lays_label : (name rest : List ℕ) → IsName name → Lays (34 ∷ (name ++ 34 ∷ [])) ((34 ∷ (name ++ 34 ∷ [])) ∷ []) rest
+pub lays_label : (name rest : List ℕ) → IsName name → Lays (34 ∷ (name ++ 34 ∷ [])) ((34 ∷ (name ++ 34 ∷ [])) ∷ []) rest
 lays_label name rest is =
     let size : 0 + length name + 2 ≡ length (name ++ 34 ∷ []) + 1 = omega (arith, length-append name (34 ∷ [])) in
     lays_token 34 (name ++ 34 ∷ []) rest

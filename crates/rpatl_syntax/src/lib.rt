@@ -12,4 +12,4 @@ pub use formula_reader::{
     Bound, Formula, MOST_NESTED, MOST_STEPS, Names, PathKind, StateFormula, read_formula,
 };
 pub use formula_tokens::{FormulaCause, FormulaFault, LONGEST, LONGEST_NAME};
-pub use print::print_formula;
+pub use print::{print_formula, put, put_bytes, put_coalition, put_fraction, put_state};

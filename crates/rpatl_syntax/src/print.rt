@@ -44,7 +44,9 @@ fn put_formula(out: &mut Vec<u8>, formula: &Formula) -> Result<(), OutOfMemory>
     put(out, " ]")
 }
 
-fn put_coalition(out: &mut Vec<u8>, coalition: &Option<Names>) -> Result<(), OutOfMemory>
+/// Appends the players of a coalition between `<<` and `>>`, and a blank, or nothing if there is no coalition. The only
+/// error of each function that appends is that memory ran out; the text is then of no use.
+pub fn put_coalition(out: &mut Vec<u8>, coalition: &Option<Names>) -> Result<(), OutOfMemory>
     ensures { OnOk result (out.new.items ≡ out.old.items ++ coalition_spelling (option_map names_of coalition.now)) }
 {
     match coalition {
@@ -88,12 +90,19 @@ fn put_threshold(out: &mut Vec<u8>, sign: &str, threshold: &Frac) -> Result<(), 
     ensures { OnOk result (out.new.items ≡ out.old.items ++ (sign.now ++ fraction_spelling threshold.now)) }
 {
     put(out, sign)?;
-    put_number(out, threshold.num())?;
-    if threshold.den() == 1 {
+    put_fraction(out, threshold.num(), threshold.den())
+}
+
+/// Appends a fraction of these numbers: the numerator and, unless the denominator is 1, a `/` and the denominator.
+pub fn put_fraction(out: &mut Vec<u8>, num: u128, den: u128) -> Result<(), OutOfMemory>
+    ensures { OnOk result (out.new.items ≡ out.old.items ++ fraction_spelling (record { num = num; den = den })) }
+{
+    put_number(out, num)?;
+    if den == 1 {
         return Ok(());
     }
     put(out, "/")?;
-    put_number(out, threshold.den())
+    put_number(out, den)
 }
 
 fn put_number(out: &mut Vec<u8>, number: u128) -> Result<(), OutOfMemory>
@@ -136,8 +145,9 @@ fn put_until(out: &mut Vec<u8>, left: &StateFormula) -> Result<(), OutOfMemory>
     }
 }
 
+/// Appends a state formula, with only the brackets that it needs.
 #[cycle(printed)]
-fn put_state(out: &mut Vec<u8>, state: &StateFormula) -> Result<(), OutOfMemory>
+pub fn put_state(out: &mut Vec<u8>, state: &StateFormula) -> Result<(), OutOfMemory>
     ensures { OnOk result (out.new.items ≡ out.old.items ++ state_spelling (state_of state.now)) }
 {
     match state {
@@ -197,13 +207,15 @@ fn strength(state: &StateFormula) -> u8
     }
 }
 
-fn put(out: &mut Vec<u8>, text: &str) -> Result<(), OutOfMemory>
+/// Appends a text.
+pub fn put(out: &mut Vec<u8>, text: &str) -> Result<(), OutOfMemory>
     ensures { OnOk result (out.new.items ≡ out.old.items ++ text.now) }
 {
     put_bytes(out, text.as_bytes())
 }
 
-fn put_bytes(out: &mut Vec<u8>, bytes: &[u8]) -> Result<(), OutOfMemory>
+/// Appends bytes.
+pub fn put_bytes(out: &mut Vec<u8>, bytes: &[u8]) -> Result<(), OutOfMemory>
     ensures { OnOk result (out.new.items ≡ out.old.items ++ bytes.now) }
 {
     match out.extend_from_slice(bytes) {
