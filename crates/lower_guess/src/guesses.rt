@@ -123,9 +123,11 @@ impl Guesses<'_> {
     fn first_table(&self, alloc: Global) -> Result<Vec<u64>, OutOfMemory>
         ensures { IfOk result (λ table. IsTableOf self.now 0 table.items) }
     {
-        let table = (0..self.question.game().states())
-            .map(|state| self.first_entry(state))
-            .collect(alloc)?;
+        let states = self.question.game().states();
+        let mut table = Vec::with_capacity(alloc, states as usize)?;
+        for state in 0..states {
+            table.push(self.first_entry(state))?;
+        }
         Ok(table)
     }
 

@@ -27,9 +27,11 @@ pub fn lesser_table(
     requires quiet { AreQuiet question.now marks.now (slice_index table.now) }
     ensures { IfOk result (λ next. IsTable question.now (lesser_step question.now (slice_index table.now)) next.items) }
 {
-    let next = (0..question.game().states())
-        .map(|state| lesser_entry(question, table, marks, state))
-        .collect(alloc)?;
+    let states = question.game().states();
+    let mut next = Vec::with_capacity(alloc, states as usize)?;
+    for state in 0..states {
+        next.push(lesser_entry(question, table, marks, state))?;
+    }
     Ok(next)
 }
 

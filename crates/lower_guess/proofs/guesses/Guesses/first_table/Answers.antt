@@ -7,5 +7,5 @@ use Rattle.lower_guess.proofs.guesses.Guesses.first_table.Goals as goal
 pub returns : goal.returns
 returns c =
     let g = c.args.self.now in
-    let first : IsTable g.question.now (first_entry_of g) c.in_ok-table.table.items = search rules in
+    let first : IsTable g.question.now (first_entry_of g) c.loop-state.table.items = search rules in
     IsTable-first _ _ _ _ g.posed _ first
