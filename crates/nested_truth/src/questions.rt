@@ -70,9 +70,11 @@ fn deads_of(alloc: Global, left: &[bool], right: &[bool]) -> Result<Vec<bool>, A
     ensures { IfOk result (λ v. v.items ≡ at_states (λ s. not (slice_index_or right.now s false)
         && not (slice_index_or left.now s false)) (length right.now)) }
 {
-    (0..right.len())
-        .map(|place| neither(right[place], left[place]))
-        .collect(alloc)
+    let mut marks = Vec::with_capacity(alloc, right.len())?;
+    for place in 0..right.len() {
+        marks.push(neither(right[place], left[place]))?;
+    }
+    Ok(marks)
 }
 
 fn neither(one: bool, other: bool) -> bool

@@ -149,5 +149,9 @@ fn answer_in<R: Threads + Sync, G: Gate + Sync>(
 fn every_state(alloc: Global, states: u32) -> Result<Vec<u32>, AllocError>
     ensures { IfOk result (λ v. v.items ≡ range_with_len 0 states) }
 {
-    (0..states).collect(alloc)
+    let mut all = Vec::with_capacity(alloc, states as usize)?;
+    for state in 0..states {
+        all.push(state)?;
+    }
+    Ok(all)
 }
