@@ -1,5 +1,5 @@
 -- What the rules derive is read.
-use Rattle.std.proofs.Common.{◌≡◌, ◌∙◌, inl, inr, ℕ, List, [], ◌∷◌, ◌++◌, length, true, false, cond, Option, Some, None}
+use Rattle.std.proofs.Common.{◌≡◌, ◌∙◌, inl, inr, ℕ, List, [], ◌∷◌, ◌++◌, length, true, false, cond, Option}
 use Rattle.std.proofs.Common.{Result, Ok, Err, refl, ap, sym, subst}
 use Rattle.std.specs.Prelude.{codes}
 use Rattle.formula_tokens.specs.declared.fault.FormulaFault.{FormulaFault}
@@ -7,7 +7,7 @@ use Rattle.formula_tokens.specs.declared.fault.FormulaCause.TheVariants.{TooLong
 use Rattle.formula_tokens.specs.Fault.{fault_at, ◌>>=◌}
 use Rattle.formula_tokens.specs.Laws.{AreTokens}
 use Rattle.formula_tokens.specs.Limits.{longest}
-use Rattle.formula_tokens.specs.Reading.{next, is, fails, follows}
+use Rattle.formula_tokens.specs.Reading.{next, is, fails}
 use Rattle.formula_tokens.specs.Tokens.{Tokens, Finish, Token, tokens_of}
 use Rattle.formula_tokens.proofs.Spans.{Spans, spans_split, chosen, bind_ok, same_bytes}
 use Rattle.formula_tokens.proofs.Cutting.{cut_read}
@@ -19,7 +19,8 @@ use Rattle.formula_reader.proofs.Again.{spans_all, formula_said_again}
 use Rattle.formula_reader.proofs.HeadsAgain.{coalition_again}
 use Rattle.formula_reader.proofs.Orders.{not_above}
 use Rattle.reward_formula.specs.Formula.{RewardTree, AnyTree, OfProbability, OfReward}
-use Rattle.reward_formula.specs.Grammar.{reward_of, goal, reward_tree, formula_from, begins_reward, of_reward, of_probability}
+use Rattle.reward_formula.specs.Grammar.{reward_of, goal, reward_tree, formula_from, begins_reward, of_reward}
+use Rattle.reward_formula.specs.Grammar.{of_probability}
 use Rattle.reward_formula.specs.Grammar.{any_formula, any_said, is_of_reward, is_reward_next}
 use Rattle.reward_formula.specs.Rules.{IsRewardFormula, DenotesReward, Denotes}
 use Rattle.reward_formula.proofs.RewardsAgain.{reward_stands}
@@ -47,13 +48,11 @@ formula_stands us f d ts a =
     let team = spans_split d.team (d.asks ++ back) ts (Finish all.0) s in
     let asks = spans_split d.asks back team.0 (Finish all.0) team.2 in
     let r = reward_stands d.asks f.name f.bound d.reward team.0 asks.0 asks.1 in
-    let no_team : follows (codes "<<") team.0 ≡ None =
-    ap (follows (codes "<<")) r.at ∙ ap (λ b. cond b (Some r.word.after) None) r.no_team in
     record {
       second = team.0;
       word = r.word;
-      team = coalition_again d.team f.coalition d.coalition ts team.0 team.1 no_team;
-      at = ap next r.at;
+      team = coalition_again d.team f.coalition d.coalition ts team.0 team.1 r.no_team;
+      at = r.at;
       begins = r.begins;
       reads = ap (λ x. x >>= λ q. goal q.1 >>= λ y. Ok (reward_tree f.coalition q.0 y)) r.reads
           ∙ ap (λ x. x >>= λ y. Ok (reward_tree f.coalition (reward_of f.name f.bound) y))
@@ -115,5 +114,6 @@ any_again text (OfReward f) d =
     ∙ reward_again text f d
 any_again text (OfProbability f) d =
     let said = formula_said_again text f d in
-    let other = formula_begins (tokens_of text) f (sym (said_tokens text (not_above (length text) longest d.short)) ∙ said) in
+    let short = said_tokens text (not_above (length text) longest d.short) in
+    let other = formula_begins (tokens_of text) f (sym short ∙ said) in
     others_before text other ∙ ap of_probability said

@@ -30,7 +30,8 @@ threshold_again place spelling after x d =
     ap (λ b. cond b (threshold_of token (amount_said spelling)) (fails token Unexpected)) d.number
     ∙ ap (threshold_of token) (amount-again spelling x d.value)
 
-comparison_again : (c : Comparison) (place : ℕ) (after : Tokens) → comparison (token_with place (sign_of c) after) ≡ Ok c
+comparison_again : (c : Comparison) (place : ℕ) (after : Tokens)
+    → comparison (token_with place (sign_of c) after) ≡ Ok c
 comparison_again at_least place after = refl
 comparison_again above place after = refl
 comparison_again at_most place after = refl

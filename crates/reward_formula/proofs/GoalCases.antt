@@ -31,9 +31,13 @@ inner_finish ts place at = ap inner_place at
 pub inner_broken : (ts : Tokens) (fault : FormulaFault) → ts ≡ Broken fault → inner_place ts ≡ None
 inner_broken ts fault at = ap inner_place at
 
+-- the next token leaves fewer
 pub fewer : (ts : Tokens) (token : Token) → ts ≡ Then token.place token.spelling token.after
     → count_of token.after < count_of ts
 fewer ts token at = let e : count_of ts ≡ count_of token.after + 1 = ap count_of at in omega (arith, e)
+
+-- what a search for the place passes over
+pub ruleset places = (inner_here, inner_next, inner_finish, inner_broken, fewer)
 
 -- 2. The goal.
 
@@ -74,3 +78,6 @@ goal_broken ts place fault some read =
       | inl memory ↦ memory_first ts place fault some memory
       | inr is ↦ inr (ap (λ o. up_to o (any_goal ts)) some ∙ ap (up_to (Some place)) is)
     ]
+
+-- what is read where there is such a token, and where there is none
+pub ruleset goals = (goal_flat, goal_inside, goal_broken)

@@ -39,6 +39,7 @@ none_next (u ∷ us) ts end s n =
 pub goal_again : (us : List (List ℕ)) (x : State) → IsState most_nested us x → is_flat x ≡ true → (ts : Tokens)
     (end : ℕ) → Spans ts (codes "[" ∷ codes "F" ∷ (us ++ codes "]" ∷ [])) (Finish end) → goal ts ≡ Ok x
 goal_again us x d flat ts end s =
-    let none : NoneBegins (codes "[" ∷ codes "F" ∷ (us ++ codes "]" ∷ [])) =
+    let whole = codes "[" ∷ codes "F" ∷ (us ++ codes "]" ∷ []) in
+    let none : NoneBegins whole =
     (refl, (refl, none_append us (codes "]" ∷ []) (state_none most_nested us x d flat) (refl, tt))) in
-    ap (λ o. up_to o (any_goal ts)) (none_next (codes "[" ∷ codes "F" ∷ (us ++ codes "]" ∷ [])) ts end s none) ∙ any_goal_again us x d ts end s
+    ap (λ o. up_to o (any_goal ts)) (none_next whole ts end s none) ∙ any_goal_again us x d ts end s

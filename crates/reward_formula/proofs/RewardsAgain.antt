@@ -1,6 +1,6 @@
 -- The tokens of a reward that the rules derive are read.
-use Rattle.std.proofs.Common.{◌≡◌, ◌∙◌, ℕ, List, [], ◌∷◌, true, false, cond, Option, Some, None, Ok, refl, ap, subst}
-use Rattle.std.specs.Prelude.{codes, bytes_eq}
+use Rattle.std.proofs.Common.{◌≡◌, ◌∙◌, ℕ, List, [], ◌∷◌, true, cond, Option, Some, None, Ok, refl, ap, subst}
+use Rattle.std.specs.Prelude.{codes}
 use Rattle.fractions.specs.Fraction.{Fraction}
 use Rattle.formula_tokens.specs.declared.fault.FormulaCause.TheVariants.{Unexpected}
 use Rattle.formula_tokens.specs.Fault.{◌>>=◌}
@@ -12,7 +12,8 @@ use Rattle.formula_reader.specs.declared.formula.Comparison.TheVariants.{AtLeast
 use Rattle.formula_reader.specs.declared.formula.Comparison.TheVariants.{AtMost as at_most, Below as below}
 use Rattle.reward_formula.specs.declared.formula.RewardBound.{RewardBound}
 use Rattle.reward_formula.specs.declared.formula.RewardBound.TheVariants.{AtLeast, Above, AtMost, Below, AskMax, AskMin}
-use Rattle.reward_formula.specs.Grammar.{Reward, reward_of, bound_with, compared, asked, bare_bound, named_bound, with_name, quoted}
+use Rattle.reward_formula.specs.Grammar.{Reward, reward_of, bound_with, compared, asked, bare_bound, named_bound}
+use Rattle.reward_formula.specs.Grammar.{with_name, quoted}
 use Rattle.reward_formula.specs.Grammar.{braced, named_reward, reward, begins_reward}
 use Rattle.reward_formula.specs.Rules.{IsBareComparison, IsNamedReward, IsReward}
 use Rattle.reward_formula.proofs.BoundsFound.{sign_of}
@@ -21,9 +22,9 @@ use Rattle.reward_formula.proofs.BoundsAgain.{token_with, compared_again, asked_
 -- a word that begins a reward, and the reward that is read from it on
 pub record RewardStands (r : Reward) (ts rest : Tokens) : Type 0 where
   pub word : Token
-  pub at : ts ≡ Then word.place word.spelling word.after
+  pub at : next ts ≡ Ok word
   pub begins : begins_reward word ≡ true
-  pub no_team : bytes_eq word.spelling (codes "<<") ≡ false
+  pub no_team : follows (codes "<<") ts ≡ None
   pub reads : reward word ≡ Ok (r, rest)
 
 -- 1. Without a name.
@@ -38,9 +39,9 @@ bare_compared c no_brace us x d ts rest s =
     let word = token_with t.0 (codes "R") t.1 in
     record {
       word = word;
-      at = t.2;
+      at = ap next t.2;
       begins = refl;
-      no_team = refl;
+      no_team = ap (follows (codes "<<")) t.2;
       reads = ap (λ o. where_next o (with_name None (bare_bound word)) named_reward)
           (ap (follows (codes "{")) r.at ∙ no_brace r.place r.after)
           ∙ ap (with_name None) (ap (λ a. next a >>= compared) r.at ∙ r.reads);
@@ -49,16 +50,17 @@ bare_compared c no_brace us x d ts rest s =
 bare_asked : (b : RewardBound) (word : List ℕ)
     → ((place : ℕ) (after : Tokens) → reward (token_with place word after) ≡ with_name None (asked b after))
     → ((place : ℕ) (after : Tokens) → begins_reward (token_with place word after) ≡ true)
-    → bytes_eq word (codes "<<") ≡ false → (us : List (List ℕ)) → us ≡ word ∷ codes "=?" ∷ [] → (ts rest : Tokens)
-    → Spans ts us rest → RewardStands (reward_of None b) ts rest
+    → ((place : ℕ) (after : Tokens) → follows (codes "<<") (Then place word after) ≡ None)
+    → (us : List (List ℕ)) → us ≡ word ∷ codes "=?" ∷ [] → (ts rest : Tokens) → Spans ts us rest
+    → RewardStands (reward_of None b) ts rest
 bare_asked b word leads begins no_team us d ts rest s =
     let P : List (List ℕ) → Type 0 = λ vs. Spans ts vs rest in
     let t : Spans ts (word ∷ codes "=?" ∷ []) rest = subst P d s in
     record {
       word = token_with t.0 word t.1;
-      at = t.2;
+      at = ap next t.2;
       begins = begins t.0 t.1;
-      no_team = no_team;
+      no_team = ap (follows (codes "<<")) t.2 ∙ no_team t.0 t.1;
       reads = leads t.0 t.1 ∙ ap (with_name None) (asked_again b t.1 rest t.3);
     }
 
@@ -92,9 +94,9 @@ named_stands us name b d ts rest s =
     (token.0, token.1, token.2, (close.0, close.1, close.2, refl)) in
     record {
       word = word;
-      at = t.2;
+      at = ap next t.2;
       begins = refl;
-      no_team = refl;
+      no_team = ap (follows (codes "<<")) t.2;
       reads = ap (λ o. where_next o (with_name None (bare_bound word)) named_reward) (ap (follows (codes "{")) brace.2)
           ∙ ap (λ r. r >>= λ n. with_name (Some n.0) (named_bound n.1))
           (braced_again d.token name d.quoted d.is_name brace.1 close.1 quote)
@@ -109,6 +111,6 @@ reward_stands us None (Above x) d ts rest s = bare_compared above (λ place afte
 reward_stands us None (AtMost x) d ts rest s = bare_compared at_most (λ place after. refl) us x d ts rest s
 reward_stands us None (Below x) d ts rest s = bare_compared below (λ place after. refl) us x d ts rest s
 reward_stands us None AskMax d ts rest s =
-    bare_asked AskMax (codes "Rmax") (λ place after. refl) (λ place after. refl) refl us d ts rest s
+    bare_asked AskMax (codes "Rmax") (λ place after. refl) (λ place after. refl) (λ place after. refl) us d ts rest s
 reward_stands us None AskMin d ts rest s =
-    bare_asked AskMin (codes "Rmin") (λ place after. refl) (λ place after. refl) refl us d ts rest s
+    bare_asked AskMin (codes "Rmin") (λ place after. refl) (λ place after. refl) (λ place after. refl) us d ts rest s

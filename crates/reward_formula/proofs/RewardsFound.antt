@@ -7,7 +7,8 @@ use Rattle.formula_tokens.specs.Tokens.{Tokens, Then, Token}
 use Rattle.formula_tokens.specs.Reading.{next, behind, is, is_quoted, unquoted, fails, follows, where_next}
 use Rattle.formula_tokens.proofs.Spans.{Found, same_read, spans_append, chosen, bind_ok, next_ok, behind_ok}
 use Rattle.formula_tokens.proofs.Spans.{follows_ok, same_bytes}
-use Rattle.reward_formula.specs.Grammar.{Reward, reward_of, name_behind, quoted, braced, named_bound, named_reward, bare_bound}
+use Rattle.reward_formula.specs.Grammar.{Reward, reward_of, name_behind, quoted, braced, named_bound, named_reward}
+use Rattle.reward_formula.specs.Grammar.{bare_bound}
 use Rattle.reward_formula.specs.Grammar.{with_name, reward, begins_reward}
 use Rattle.reward_formula.specs.Rules.{IsReward}
 use Rattle.reward_formula.proofs.BoundsFound.{bare_found, named_found}

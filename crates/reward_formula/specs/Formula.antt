@@ -4,10 +4,11 @@ use Rattle.formula_reader.specs.Formula.{State, Tree, names_of, state_of, tree_o
 use Rattle.reward_formula.specs.declared.formula.RewardBound.{RewardBound}
 use Rattle.reward_formula.specs.declared.formula.RewardFormula.{RewardFormula}
 use Rattle.reward_formula.specs.declared.formula.AnyFormula.{AnyFormula}
-use Rattle.reward_formula.specs.declared.formula.AnyFormula.TheVariants.{OfProbability as OfProbability', OfReward as OfReward'}
+use Rattle.reward_formula.specs.declared.formula.AnyFormula.TheVariants.{OfReward as OfReward'}
+use Rattle.reward_formula.specs.declared.formula.AnyFormula.TheVariants.{OfProbability as OfProbability'}
 
--- A formula of rewards has a bound on what is expected to be collected before the goal holds, and a coalition of players
--- and a name of the rewards if these are given.
+-- A formula of rewards has a bound on what is expected to be collected before the goal holds. It has a coalition of
+-- players and a name of the rewards if these are given.
 pub record RewardTree : Type 0 where
   pub coalition : Option (List (List ℕ))
   pub name : Option (List ℕ)

@@ -1,5 +1,6 @@
 -- The grammar of formulas of rewards is read from the left: this gives the tree that a text spells, or the first fault.
-use Rattle.std.specs.Prelude.{ℕ, ◌||◌, nat_lt, Bool, false, List, length, Option, Some, None, Result, Ok, Err, if◌then◌else◌}
+use Rattle.std.specs.Prelude.{ℕ, ◌||◌, nat_lt, Bool, false, List, length, Option, Some, None, Result, Ok, Err}
+use Rattle.std.specs.Prelude.{if◌then◌else◌}
 use Rattle.std.specs.Prelude.{codes}
 use Rattle.fractions.specs.Fraction.{Fraction}
 use Rattle.rewards_reader.specs.declared.fault.RewardsCause.{RewardsCause}

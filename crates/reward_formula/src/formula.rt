@@ -39,8 +39,8 @@ impl RewardBound {
     }
 }
 
-/// A formula of rewards is a bound on what is expected to be collected before the goal holds, for a coalition of players
-/// if one is named.
+/// A formula of rewards is a bound on what is expected to be collected before the goal holds, for a coalition of
+/// players if one is named.
 #[derive(Drop)]
 pub struct RewardFormula {
     pub coalition: Option<Names>,

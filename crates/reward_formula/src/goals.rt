@@ -13,7 +13,7 @@ use formula_tokens::{Cursor, FormulaCause, FormulaFault, Lead, behind, next_lead
 use std::alloc::Global;
 
 /// Reads `[ F state ]` and the end of the text. A formula inside the state formula is a fault where it begins.
-#[tactic(auto, using(crate::proofs::GoalCases::goal_flat, crate::proofs::GoalCases::goal_inside, crate::proofs::GoalCases::goal_broken))]
+#[tactic(auto, using(crate::proofs::GoalCases::goals))]
 pub fn read_goal(alloc: Global, cursor: Cursor<'_>) -> Result<StateFormula, FormulaFault>
     ensures { AnswersOrWants IsOutOfMemory state_of result (goal (tokens_at cursor.entry)) }
 {
@@ -50,7 +50,7 @@ fn finished(state: StateFormula, cursor: Cursor<'_>) -> Result<StateFormula, For
 }
 
 // Returns the place of the first token that begins a formula inside.
-#[tactic(auto, using(crate::proofs::GoalCases::inner_here, crate::proofs::GoalCases::inner_next, crate::proofs::GoalCases::inner_finish, crate::proofs::GoalCases::inner_broken, crate::proofs::GoalCases::fewer))]
+#[tactic(auto, using(crate::proofs::GoalCases::places))]
 fn inner_place(cursor: Cursor<'_>) -> Option<u32>
     ensures { result ≡ inner_place (tokens_at cursor.entry) }
 {

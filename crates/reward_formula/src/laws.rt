@@ -20,8 +20,8 @@ pub fn other_texts_are_read_as_before()
         any_said text ≡ of_probability (formula_said text) }
 {}
 
-/// A formula that a text denotes can be spelled. The contract of `print_any_formula` therefore says that it is read again
-/// from what is printed, unless that is too long.
+/// A formula that a text denotes can be spelled. The contract of `print_any_formula` therefore says that it is read
+/// again from what is printed, unless that is too long.
 pub fn formulas_of_texts_are_spellable()
     ensures { (text : List ℕ) (tree : AnyTree) → Denotes text tree → IsAnySpellable tree }
 {}
