@@ -22,6 +22,8 @@ mod plans;
 #[cfg(test)]
 mod questions;
 #[cfg(test)]
+mod reward_formulas;
+#[cfg(test)]
 mod rewards;
 #[cfg(test)]
 mod transitions;

@@ -1,0 +1,16 @@
+pub mod GoalCases
+pub mod Flat
+pub mod BoundsFound
+pub mod RewardsFound
+pub mod GoalsFound
+pub mod Denoted
+pub mod BoundsAgain
+pub mod RewardsAgain
+pub mod GoalsAgain
+pub mod Again
+pub mod Before
+pub mod Short
+pub mod Kept
+pub mod Printed
+pub mod Laid
+pub mod Reread
