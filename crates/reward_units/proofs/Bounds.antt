@@ -14,7 +14,7 @@ use Rattle.reward_units.specs.Units.{most_units, all_below, all_above}
 use Rattle.reward_units.specs.Exact.{ExactRewards, ArePaid, AreRounded, uncapped, exact_of}
 use Rattle.reward_units.proofs.Capped.{capped-sum, small-sum}
 use Rattle.reward_units.proofs.Grows.{grows-inside}
-use Rattle.reward_units.proofs.Rounding.{below-sum, above-sum}
+use Rattle.reward_units.proofs.RoundedUnits.{below-sum, above-sum}
 
 -- an upper bound in finer units, over smaller rewards
 hold-factors : (d e high upper ways : ℕ) → 1 * e ≤ d * high → high ≤ upper * ways → e ≤ d * upper * ways

@@ -1,5 +1,5 @@
 pub mod Places
-pub mod Rounding
+pub mod RoundedUnits
 pub mod Near
 pub mod Denominator
 pub mod Capped

@@ -1,4 +1,4 @@
-use Rattle.reward_units.proofs.Rounding.{below-times, above-times}
+use Rattle.reward_units.proofs.RoundedUnits.{below-times, above-times}
 use Rattle.reward_units.proofs.Near.{below-le-above, above-le-next, below-above}
 use Rattle.reward_units.proofs.laws.units_bracket_rewards.Goals as goal
 
