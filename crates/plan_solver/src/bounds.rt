@@ -58,10 +58,19 @@ pub fn find_bounds(
         zero,
         costs: None,
     };
-    let tables = find_tables(alloc, &input, &input, hints)?;
+    let states = question.game().states() as usize;
+    let mut replies = vec![in alloc; 0u32; states]?;
+    let mut node_of = vec![in alloc; NONE; states]?;
+    let lower = lower_bounds(alloc, &input, &mut replies, &mut node_of)?;
+    let values = first_values(lower.values, hints);
+    let start = Start {
+        values: &values,
+        planned: &lower.planned,
+    };
+    let upper = upper_table(alloc, &input, &start, &mut replies, &mut node_of)?;
     Ok(Candidates {
-        lower: tables.lower.into_entries(),
-        upper: tables.upper.into_entries(),
+        lower: lower.table.into_entries(),
+        upper: upper.into_entries(),
     })
 }
 
@@ -80,7 +89,6 @@ pub(crate) fn find_tables(
     alloc: Global,
     lower_input: &Input<'_, '_>,
     upper_input: &Input<'_, '_>,
-    hints: Option<&[f64]>,
 ) -> Result<Tables, OutOfMemory>
     requires { upper_input.now.question.now ≡ lower_input.now.question.now }
     ensures lower { IfOk result (λ t. length t.lower ≡ states lower_input.now.question.now) }
@@ -92,9 +100,8 @@ pub(crate) fn find_tables(
     let mut replies = vec![in alloc; 0u32; states]?;
     let mut node_of = vec![in alloc; NONE; states]?;
     let lower = lower_bounds(alloc, lower_input, &mut replies, &mut node_of)?;
-    let values = first_values(lower.values, hints);
     let start = Start {
-        values: &values,
+        values: &lower.values,
         planned: &lower.planned,
     };
     let upper = upper_table(alloc, upper_input, &start, &mut replies, &mut node_of)?;

@@ -76,7 +76,7 @@ pub fn find_costly_bounds(
         zero,
         costs: Some(costs.upper),
     };
-    let tables = find_tables(alloc, &lower_input, &upper_input, None)?;
+    let tables = find_tables(alloc, &lower_input, &upper_input)?;
     Ok(CostlyTables {
         lower: tables.lower.into_entries(),
         choices: tables.choices,
