@@ -1,7 +1,8 @@
 -- A formula of rewards that a text denotes can be spelled.
 use Rattle.std.proofs.Common.{ℕ, List, [], ◌∷◌, ◌++◌, Option, Some, None, subst}
 use Rattle.std.specs.Prelude.{codes}
-use Rattle.std.specs.List.{AllByRecursion}
+use Rattle.std.specs.List.{All}
+use Rattle.std.proofs.lemmas.List.Elements.{All-head}
 use Rattle.fractions.specs.Fraction.{Fraction}
 use Rattle.formula_tokens.specs.TokenRules.{IsName, IsSpelling}
 use Rattle.formula_tokens.proofs.Cutting.{cut_spelled}
@@ -42,14 +43,13 @@ bound_kept us (Some name) b d = named_kept d.asks b d.bound_is
 
 -- the token of a name
 name_kept : (us : List (List ℕ)) (name : Option (List ℕ)) (b : RewardBound) → IsReward us name b
-    → AllByRecursion IsSpelling us → HasName name
+    → All IsSpelling us → HasName name
 name_kept us None b d a = tt
 name_kept us (Some name) b d a =
-    let P : List (List ℕ) → Type 0 = λ vs. AllByRecursion IsSpelling vs in
     let Q : List ℕ → Type 0 = λ n. IsName n in
-    let token : AllByRecursion IsSpelling (d.token ∷ codes "}" ∷ d.asks) =
-    all_right (codes "R" ∷ codes "{" ∷ []) (d.token ∷ codes "}" ∷ d.asks) (subst P d.whole a) in
-    subst Q d.is_name (label_kept d.token d.quoted token.0)
+    let token : All IsSpelling (d.token ∷ codes "}" ∷ d.asks) =
+    all_right (codes "R" ∷ codes "{" ∷ []) (d.token ∷ codes "}" ∷ d.asks) (subst (All IsSpelling) d.whole a) in
+    subst Q d.is_name (label_kept d.token d.quoted (All-head IsSpelling d.token (codes "}" ∷ d.asks) token))
 
 reward_spellable : (text : List ℕ) (f : RewardTree) → DenotesReward text f → IsSpellableReward f
 reward_spellable text f d =
@@ -57,9 +57,8 @@ reward_spellable text f d =
     let close = codes "]" ∷ [] in
     let signs = codes "[" ∷ codes "F" ∷ [] in
     let back = signs ++ (g.goal ++ close) in
-    let P : List (List ℕ) → Type 0 = λ us. AllByRecursion IsSpelling us in
-    let all : AllByRecursion IsSpelling (g.team ++ (g.asks ++ back)) =
-    subst P g.whole (cut_spelled text d.tokens d.cut) in
+    let all : All IsSpelling (g.team ++ (g.asks ++ back)) =
+    subst (All IsSpelling) g.whole (cut_spelled text d.tokens d.cut) in
     let behind_team = all_right g.team (g.asks ++ back) all in
     let behind_signs = all_right signs (g.goal ++ close) (all_right g.asks back behind_team) in
     let goal = state_suits most_nested g.goal f.goal g.state (all_left g.goal close behind_signs) in
