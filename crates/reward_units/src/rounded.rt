@@ -69,7 +69,7 @@ fn push_state(
 /// Returns the units of a reward.
 fn units_of(reward: Amount, places: u32, rounding: Rounding) -> u64
     requires { places ≤ most_places }
-    ensures value { result ≡ units_one_way rounding reward.now places }
+    ensures value { result ≡ units_one_way rounding reward places }
     ensures small { result ≤ most_units }
 {
     reward.invariant();

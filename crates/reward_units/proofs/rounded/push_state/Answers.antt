@@ -5,7 +5,7 @@ use Rattle.reward_units.proofs.Listed.{paid-push, paid-end}
 use Rattle.reward_units.proofs.rounded.push_state.Goals as goal
 
 pub loop-choice-preserved : goal.loop-choice-preserved
-loop-choice-preserved g c =
+loop-choice-preserved c =
     paid-push c.args.game.now
     (paid_units c.args.rounding (exact_in c.args.game.now c.args.rewards.now) c.args.places)
     c.loop-choice.list.items _ c.args.state c.loop-choice.choice _
@@ -13,7 +13,7 @@ loop-choice-preserved g c =
     (omega (arith, c.own.ensures.value, c.more.ensures.value))
 
 pub returns : goal.returns
-returns g c =
+returns c =
     let all : c.loop-choice.choice ≡ length (choices_of c.args.game.now c.args.state) =
     omega (arith, c.choices_of-choice-end.ensures, c.loop-choice-test.false, c.loop-choice.auto.choice-end) in
     paid-end c.args.game.now

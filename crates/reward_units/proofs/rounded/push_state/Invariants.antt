@@ -3,5 +3,5 @@ use Rattle.reward_units.specs.inside.Listed.{ArePaidBefore}
 use Rattle.reward_units.proofs.rounded.push_state.Given as goal
 
 abbrev pub invariant-loop-choice : goal.invariant-loop-choice
-invariant-loop-choice g l =
+invariant-loop-choice l =
     ArePaidBefore l.game (paid_units l.rounding (exact_in l.game l.rewards) l.places) l.state l.choice l.list.items

@@ -3,5 +3,5 @@ use Rattle.reward_units.specs.inside.Listed.{ArePaidBefore}
 use Rattle.reward_units.proofs.rounded.rewards_in_units.Given as goal
 
 abbrev pub invariant-loop-state : goal.invariant-loop-state
-invariant-loop-state g l =
+invariant-loop-state l =
     ArePaidBefore l.game (paid_units l.rounding (exact_in l.game l.rewards) l.places) l.state 0 l.list.items
