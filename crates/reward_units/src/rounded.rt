@@ -1,6 +1,7 @@
 //! This module gives the rewards of a game in units.
 
-ghost use Rattle.std.specs.Prelude.{◌≡◌, ◌+◌, ◌<◌, ◌≤◌, IfOk, OnOk, length};
+ghost use Rattle.std.specs.Prelude.{◌≡◌, ◌+◌, ◌<◌, ◌≤◌, IfOk, OnOk, Some, None, length};
+ghost use Rattle.rewards_reader.specs.Rewards.{reward_in};
 ghost use Rattle.game_model.specs.Game.{choices_of};
 ghost use Rattle.reward_units.specs.Units.{most_places, most_units, units_below, units_above};
 ghost use Rattle.reward_units.specs.Rounded.{exact_in, paid_units, units_one_way, ArePaidUnits};
@@ -58,12 +59,46 @@ fn push_state(
     ensures { OnOk result (ArePaidBefore game.now (paid_units rounding (exact_in game.now rewards.now) places)
         (state + 1) 0 list.new.items) }
 {
-    let own = units_of(rewards.of_state(game, state), places, rounding);
+    let own = state_units(game, rewards, places, rounding, state);
     for choice in 0..game.choices_of(state) {
-        let more = units_of(rewards.of_choice(game, state, choice), places, rounding);
+        let more = choice_units(game, rewards, places, rounding, state, choice);
         list.push(own + more)?;
     }
     Ok(())
+}
+
+/// Returns the units of the reward of a state.
+fn state_units(
+    game: &Game,
+    rewards: &RewardTable,
+    places: u32,
+    rounding: Rounding,
+    state: u32,
+) -> u64
+    requires places { places ≤ most_places }
+    requires state { state < length game.now }
+    ensures value { result ≡ units_one_way rounding (reward_in game.now rewards.now state None) places }
+    ensures small { result ≤ most_units }
+{
+    units_of(rewards.of_state(game, state), places, rounding)
+}
+
+/// Returns the units of the reward of a choice.
+fn choice_units(
+    game: &Game,
+    rewards: &RewardTable,
+    places: u32,
+    rounding: Rounding,
+    state: u32,
+    choice: u32,
+) -> u64
+    requires places { places ≤ most_places }
+    requires state { state < length game.now }
+    requires choice { choice < length (choices_of game.now state) }
+    ensures value { result ≡ units_one_way rounding (reward_in game.now rewards.now state (Some choice)) places }
+    ensures small { result ≤ most_units }
+{
+    units_of(rewards.of_choice(game, state, choice), places, rounding)
 }
 
 /// Returns the units of a reward.

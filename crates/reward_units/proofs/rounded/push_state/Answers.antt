@@ -10,7 +10,7 @@ loop-choice-preserved c =
     (paid_units c.args.rounding (exact_in c.args.game.now c.args.rewards.now) c.args.places)
     c.loop-choice.list.items _ c.args.state c.loop-choice.choice _
     c.in_ok-push.ensures.items c.loop-choice.invariant c.requires.state
-    (omega (arith, c.units_of-own.ensures.value, c.units_of-more.ensures.value))
+    (omega (arith, c.state_units-own.ensures.value, c.choice_units-more.ensures.value))
 
 pub returns : goal.returns
 returns c =
