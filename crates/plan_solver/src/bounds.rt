@@ -56,7 +56,7 @@ pub fn find_bounds(
         components: &components,
         sure,
         zero,
-        costs: None,
+        costs: &[],
     };
     let states = question.game().states() as usize;
     let mut replies = vec![in alloc; 0u32; states]?;

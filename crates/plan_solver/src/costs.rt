@@ -65,7 +65,7 @@ pub fn find_costly_bounds(
         components: &components,
         sure: &goals,
         zero,
-        costs: Some(costs.lower),
+        costs: costs.lower,
     };
     let upper_input = Input {
         question,
@@ -74,7 +74,7 @@ pub fn find_costly_bounds(
         components: &components,
         sure: &goals,
         zero,
-        costs: Some(costs.upper),
+        costs: costs.upper,
     };
     let tables = find_tables(alloc, &lower_input, &upper_input)?;
     Ok(CostlyTables {

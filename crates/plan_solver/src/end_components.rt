@@ -115,7 +115,7 @@ pub(crate) fn find_end_components(
 ) -> Result<EndComponents, OutOfMemory>
     requires { length replies.now ≡ states input.now.question.now }
 {
-    if input.costs.is_some() || !has_free_choice(input) {
+    if !input.costs.is_empty() || !has_free_choice(input) {
         return Ok(EndComponents::alone(alloc));
     }
     let posed = open_question(alloc, input)?;

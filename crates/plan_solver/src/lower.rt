@@ -44,7 +44,13 @@ pub(crate) fn lower_component(
     let members = input.components.members(component);
     if members.len() == 1 {
         let state = members[0];
-        let entry = single_entry(input.question, lower, Bound::Lower, state, input.costs);
+        let entry = single_entry(
+            input.question,
+            lower,
+            Bound::Lower,
+            state,
+            Some(input.costs),
+        );
         lower.set(state, entry.value);
         note(planned, state, entry.choice);
         note(replies, state, entry.choice);
@@ -76,7 +82,7 @@ pub(crate) fn lower_component(
         game: &game,
         nodes: &nodes,
         bound: Bound::Lower,
-        costs: input.costs,
+        costs: Some(input.costs),
     };
     let _is_held = round_component(alloc, &rounding, &values, &policy, planned, lower)?;
     Ok(())
@@ -161,7 +167,7 @@ fn add_state(
     let row = input.question.row(state);
     let mut first = u32::try_from(draft.choices()).unwrap_or(0);
     for choice in 0..row.choices() {
-        let cost = cost_of(input.costs, input.question.game(), state, choice);
+        let cost = cost_of(Some(input.costs), input.question.game(), state, choice);
         add_edges(&row, choice, cost, node_of, lower.entries(), draft)?;
         let number = u32::try_from(draft.choices()).unwrap_or(0);
         let is_in = draft.end_choice(choice)?;

@@ -70,10 +70,10 @@ fn best_reply(input: &Input<'_, '_>, upper: &[f64], state: u32) -> Reply
     row.invariant();
     let mut best = Reply {
         choice: 0,
-        value: value_of(&row, upper, 0, cost_of(input.costs, game, state, 0)),
+        value: value_of(&row, upper, 0, cost_of(Some(input.costs), game, state, 0)),
     };
     for choice in 1..row.choices() {
-        let cost = cost_of(input.costs, game, state, choice);
+        let cost = cost_of(Some(input.costs), game, state, choice);
         let value = value_of(&row, upper, choice, cost);
         if value < best.value {
             best = Reply { choice, value };

@@ -66,7 +66,13 @@ pub(crate) fn upper_component(
     let members = input.components.members(component);
     if members.len() == 1 {
         let state = members[0];
-        let entry = single_entry(input.question, upper, Bound::Upper, state, input.costs);
+        let entry = single_entry(
+            input.question,
+            upper,
+            Bound::Upper,
+            state,
+            Some(input.costs),
+        );
         upper.set(state, entry.value);
         note_value(shown, state, nearest_u64_to_f64(entry.value));
         note(replies, state, entry.choice);
@@ -98,7 +104,7 @@ pub(crate) fn upper_component(
         game: &game,
         nodes: &nodes,
         bound: Bound::Upper,
-        costs: input.costs,
+        costs: Some(input.costs),
     };
     let is_held = round_component(alloc, &rounding, &values, &policy, replies, upper)?;
     show(members, &nodes, &values, is_held, upper, shown);
@@ -285,7 +291,7 @@ fn add_state(
     for choice in 0..row.choices() {
         let is_inner = is_merged && shape.end_components.hold(question, state, choice);
         if !is_inner && is_played(question, shape.replies, state, choice) {
-            let cost = cost_of(input.costs, question.game(), state, choice);
+            let cost = cost_of(Some(input.costs), question.game(), state, choice);
             add_edges(&row, choice, cost, node_of, upper.entries(), draft)?;
             let number = u32::try_from(draft.choices()).unwrap_or(0);
             if draft.end_choice(choice)? && maximises && wanted == Some(choice) {
