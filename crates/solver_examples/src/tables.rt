@@ -105,13 +105,14 @@ fn table_of(alloc: Global, question: &Question<'_>, bound: Bound) -> Result<Unit
             &components,
             component,
             bound,
+            &[],
             &mut table,
         )?;
     }
     Ok(table)
 }
 
-/// Fills in the entries of a component.
+/// Fills in the entries of a component, whose choices have these costs.
 fn fill(
     alloc: Global,
     question: &Question<'_>,
@@ -119,6 +120,7 @@ fn fill(
     components: &Components,
     component: u32,
     bound: Bound,
+    costs: &[u64],
     table: &mut UnitTable,
 ) -> Result<(), Fail>
     requires predecessors { length predecessors.now ≡ states question.now }
@@ -142,7 +144,7 @@ fn fill(
         game: &game,
         nodes: &nodes,
         bound,
-        costs: None,
+        costs: Some(costs),
     };
     round(alloc, &input, table)
 }
