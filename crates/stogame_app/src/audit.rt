@@ -10,25 +10,14 @@ ghost use Rattle.stogame_app.specs.inside.Answers.{IsAnswered};
 
 use command_words::AuditWords;
 use game_outside::Shelf;
-use inputs::{End, Loaded, Paths, load_certificate, load_model, pose_loaded};
+use inputs::{End, Loaded, Paths, load_certificate, pose_loaded};
 use output::Answer;
 use reports::audit_report;
 use std::alloc::Global;
 
-/// Answers `audit` with its report, or says why there is none.
-pub fn answer_audit<H: Shelf>(
-    alloc: Global,
-    audit: &AuditWords<'_>,
-    shelf: &mut H,
-) -> Result<Answer, End>
-    ensures { IsAnswered H.held H.steady H.faults H.taken (OfAudit (audit_of audit.now)) shelf.old shelf.new result }
-{
-    let loaded = load_model(alloc, shelf, &audit.asked)?;
-    audit_loaded(alloc, &loaded, audit, shelf)
-}
-
-// Reports on what was loaded, from the certificate, which is read after it.
-fn audit_loaded<H: Shelf>(
+/// Answers `audit` with its report on what was loaded, from the certificate, which is read after it, or says why there
+/// is none.
+pub fn audit_loaded<H: Shelf>(
     alloc: Global,
     loaded: &Loaded,
     audit: &AuditWords<'_>,

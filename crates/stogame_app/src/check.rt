@@ -11,7 +11,7 @@ ghost use Rattle.inputs.specs.Problems.{initial_of, states_of};
 ghost use Rattle.inputs.specs.Questions.{Reads};
 ghost use Rattle.inputs.specs.SeenProblems.{HasDual, IsOfKind, problem_of};
 ghost use Rattle.output.specs.Status.{IsAnswer};
-ghost use Rattle.stogame_app.specs.inside.Answers.{IsAnswered, IsMadeOf};
+ghost use Rattle.stogame_app.specs.inside.Answers.{IsMadeOf};
 ghost use Rattle.stogame_app.specs.Commands.{check_paths};
 ghost use Rattle.stogame_app.specs.inside.Posed.{IsReportable};
 ghost use Rattle.stogame_app.specs.Reports.{Checks, IsReportOfWords};
@@ -20,32 +20,17 @@ use command_words::CheckWords;
 use formula_reader::Formula;
 use formula_reader::laws::formulas_inside_are_few;
 use formula_truth::Way;
-use game_outside::{Gate, OutOfMemory, Shelf};
-use inputs::{End, Loaded, Paths, Problem, load_model, pose_loaded};
+use game_outside::{Gate, OutOfMemory};
+use inputs::{End, Loaded, Paths, Problem, pose_loaded};
 use output::Answer;
 use reports::{bracket_report, nested_report, next_report, within_report};
 use rpatl_syntax::laws::formulas_of_texts_are_spellable;
 use std::alloc::Global;
 use std::thread::Threads;
 
-/// Answers `check` with its report, and a certificate if it is asked for, or says why there is none.
-pub fn answer_check<R: Threads + Sync, H: Shelf, G: Gate + Sync>(
-    rt: &R,
-    alloc: Global,
-    check: &CheckWords<'_>,
-    shelf: &mut H,
-    gate: &G,
-) -> Result<Answer, End>
-    requires { AreInRange (check_of check.now) }
-    ensures { IsAnswered H.held H.steady H.faults H.taken (OfCheck (check_of check.now)) shelf.old shelf.new result }
-{
-    let loaded = load_model(alloc, shelf, &check.asked)?;
-    check_loaded(rt, alloc, &loaded, check, gate)
-}
-
-// Reports on what was loaded. This function does not own the model, because what a function owns has to be proved
-// released at each of its exits.
-fn check_loaded<R: Threads + Sync, G: Gate + Sync>(
+/// Answers `check` with its report on what was loaded, and a certificate if it is asked for, or says why there is none.
+/// This function does not own the model, because what a function owns has to be proved released at each of its exits.
+pub fn check_loaded<R: Threads + Sync, G: Gate + Sync>(
     rt: &R,
     alloc: Global,
     loaded: &Loaded,

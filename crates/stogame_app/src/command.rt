@@ -9,18 +9,18 @@ ghost use Rattle.stogame_app.specs.Commands.{IsInRange};
 ghost use Rattle.stogame_app.specs.inside.Answers.{IsAnswered};
 ghost use Rattle.stogame_app.specs.Run.{AsksShelf, IsAcceptedOfWords, IsEnding, IsReadable};
 
-use crate::audit::answer_audit;
-use crate::check::answer_check;
+use crate::audit::audit_loaded;
+use crate::check::check_loaded;
 use crate::ends::{end_run, end_with_usage};
 use crate::make::answer_make;
-use crate::solve::answer_solve;
-use crate::sure::answer_sure;
+use crate::solve::solve_loaded;
+use crate::sure::sure_loaded;
 use certificate_audit::laws::audits_have_one_answer;
 use command_words::laws::words_denote_one_command;
 use command_words::{CommandWords, read_words};
 use game_outside::{Gate, Shelf, Sink};
-use inputs::End;
 use inputs::laws::questions_are_what_is_asked;
+use inputs::{End, load_model};
 use output::{Answer, Status};
 use std::alloc::Global;
 use std::thread::Threads;
@@ -82,7 +82,7 @@ pub fn run<R: Threads + Sync, H: Shelf, K: Sink, G: Gate + Sync>(
     }
 }
 
-// Answers a command, or says why there is no answer.
+// Answers a command, or says why there is no answer. What is asked of a model is asked once the model is loaded.
 fn answer<R: Threads + Sync, H: Shelf, G: Gate + Sync>(
     rt: &R,
     alloc: Global,
@@ -94,10 +94,22 @@ fn answer<R: Threads + Sync, H: Shelf, G: Gate + Sync>(
     ensures { IsAnswered H.held H.steady H.faults H.taken (command_of command.now) shelf.old shelf.new result }
 {
     match command {
-        CommandWords::Check(check) => answer_check(rt, alloc, check, shelf, gate),
-        CommandWords::Audit(audit) => answer_audit(alloc, audit, shelf),
-        CommandWords::Solve(solve) => answer_solve(rt, alloc, solve, shelf, gate),
+        CommandWords::Check(check) => {
+            let loaded = load_model(alloc, shelf, &check.asked)?;
+            check_loaded(rt, alloc, &loaded, check, gate)
+        }
+        CommandWords::Audit(audit) => {
+            let loaded = load_model(alloc, shelf, &audit.asked)?;
+            audit_loaded(alloc, &loaded, audit, shelf)
+        }
+        CommandWords::Solve(solve) => {
+            let loaded = load_model(alloc, shelf, &solve.asked)?;
+            solve_loaded(rt, alloc, &loaded, solve, shelf, gate)
+        }
         CommandWords::Make(make) => answer_make(rt, alloc, make, gate),
-        CommandWords::Sure(asked) => answer_sure(alloc, asked, shelf),
+        CommandWords::Sure(asked) => {
+            let loaded = load_model(alloc, shelf, asked)?;
+            sure_loaded(alloc, &loaded, asked)
+        }
     }
 }

@@ -24,7 +24,7 @@ use formula_reader::Formula;
 use formula_reader::laws::formulas_inside_are_few;
 use formula_truth::Way;
 use game_outside::{Gate, OutOfMemory, Shelf};
-use inputs::{End, Loaded, Paths, Problem, load_model, load_values, pose_loaded};
+use inputs::{End, Loaded, Paths, Problem, load_values, pose_loaded};
 use output::Answer;
 use reports::{nested_report, next_report, solved_report, within_report};
 use rpatl_syntax::laws::formulas_of_texts_are_spellable;
@@ -34,22 +34,9 @@ use std::thread::Threads;
 /// A step has at most this many workers.
 const WORKERS: u32 = 4;
 
-/// Answers `solve` with its report, or says why there is none.
-pub fn answer_solve<R: Threads + Sync, H: Shelf, G: Gate + Sync>(
-    rt: &R,
-    alloc: Global,
-    solve: &SolveWords<'_>,
-    shelf: &mut H,
-    gate: &G,
-) -> Result<Answer, End>
-    ensures { IsAnswered H.held H.steady H.faults H.taken (OfSolve (solve_of solve.now)) shelf.old shelf.new result }
-{
-    let loaded = load_model(alloc, shelf, &solve.asked)?;
-    solve_loaded(rt, alloc, &loaded, solve, shelf, gate)
-}
-
-// Reports on what was loaded, with values to begin with, which are read after it.
-fn solve_loaded<R: Threads + Sync, H: Shelf, G: Gate + Sync>(
+/// Answers `solve` with its report on what was loaded, with values to begin with, which are read after it, or says why
+/// there is none.
+pub fn solve_loaded<R: Threads + Sync, H: Shelf, G: Gate + Sync>(
     rt: &R,
     alloc: Global,
     loaded: &Loaded,

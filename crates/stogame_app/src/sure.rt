@@ -6,30 +6,16 @@ ghost use Rattle.command_words.specs.Words.{OfSure, asked_of_words};
 ghost use Rattle.inputs.specs.Posed.{HasSizes, reading_of};
 ghost use Rattle.stogame_app.specs.Status.{sure_status};
 ghost use Rattle.output.specs.Status.{IsAnswer};
-ghost use Rattle.stogame_app.specs.inside.Answers.{IsAnswered, IsMadeOf};
+ghost use Rattle.stogame_app.specs.inside.Answers.{IsMadeOf};
 
 use command_words::AskedWords;
-use game_outside::Shelf;
-use inputs::{End, Loaded, Paths, load_model, pose_loaded};
+use inputs::{End, Loaded, Paths, pose_loaded};
 use output::{Answer, Status};
 use reports::sure_report;
 use std::alloc::Global;
 
-/// Answers `sure` with its report, or says why there is none.
-pub fn answer_sure<H: Shelf>(
-    alloc: Global,
-    asked: &AskedWords<'_>,
-    shelf: &mut H,
-) -> Result<Answer, End>
-    ensures { IsAnswered H.held H.steady H.faults H.taken
-        (OfSure (asked_of_words asked.now)) shelf.old shelf.new result }
-{
-    let loaded = load_model(alloc, shelf, asked)?;
-    sure_of_loaded(alloc, &loaded, asked)
-}
-
-// Reports on what was loaded.
-fn sure_of_loaded(alloc: Global, loaded: &Loaded, asked: &AskedWords<'_>) -> Result<Answer, End>
+/// Answers `sure` with its report on what was loaded, or says why there is none.
+pub fn sure_loaded(alloc: Global, loaded: &Loaded, asked: &AskedWords<'_>) -> Result<Answer, End>
     requires sizes { HasSizes loaded.now.game loaded.now.labels loaded.now.owners }
     requires share { IsAtMostOne loaded.now.formula.bound }
     ensures { IsMadeOf (OfSure (asked_of_words asked.now)) (asked_of_words asked.now) (reading_of loaded.now) result }

@@ -6,7 +6,7 @@ use Rattle.command_words.specs.Words.{asked_of_words}
 use Rattle.formula_reader.specs.Formula.{tree_of}
 use Rattle.stogame_app.specs.Reports.{of_sure}
 use Rattle.stogame_app.proofs.Answered.{reached-inside, report_made, sure_asks, unposed, want_made}
-use Rattle.stogame_app.proofs.sure.sure_of_loaded.Goals as goal
+use Rattle.stogame_app.proofs.sure.sure_loaded.Goals as goal
 
 pub returns-in_err-problem : goal.returns-in_err-problem
 returns-in_err-problem c =
