@@ -1,6 +1,7 @@
 //! A choice may cost some units.
 
-ghost use Rattle.std.specs.Prelude.{◌<◌, length};
+ghost use Rattle.std.specs.Prelude.{◌≡◌, ◌<◌, length, option_map};
+ghost use Rattle.table_rounding.specs.Costs.{cost_in};
 
 use game_model::Game;
 
@@ -8,10 +9,16 @@ use game_model::Game;
 /// list, and behind its end, a choice costs nothing.
 pub fn cost_of(costs: Option<&[u64]>, game: &Game, state: u32, choice: u32) -> u64
     requires { state < length game.now }
+    ensures { result ≡ cost_in (option_map (λ list. list.now) costs) game.now state choice }
 {
     let Some(costs) = costs else {
         return 0;
     };
-    let place = (game.choices_below(state) as usize).saturating_add(choice as usize);
-    costs.get(place).copied().unwrap_or(0)
+    let place = game.choices_below(state) + u64::from(choice);
+    let place = place as usize;
+    if place < costs.len() {
+        costs[place]
+    } else {
+        0
+    }
 }
