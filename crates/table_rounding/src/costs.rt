@@ -16,9 +16,5 @@ pub fn cost_of(costs: Option<&[u64]>, game: &Game, state: u32, choice: u32) -> u
     };
     let place = game.choices_below(state) + u64::from(choice);
     let place = place as usize;
-    if place < costs.len() {
-        costs[place]
-    } else {
-        0
-    }
+    if place < costs.len() { costs[place] } else { 0 }
 }

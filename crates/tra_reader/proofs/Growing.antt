@@ -13,7 +13,8 @@ use Rattle.tra_reader.specs.declared.finished_choices.FinishedChoices.{FinishedC
 use Rattle.transition_lines.specs.Lines.{is_of}
 use Rattle.transition_lines.specs.Choices.{transitions_of, part_of, parts_of}
 use Rattle.transition_lines.specs.Order.{IsWithin, place_of, transition_place}
-use Rattle.tra_reader.specs.inside.GrowingGames.{AreFinished, IsMade, place_behind, AreFinishedBefore, EndsBefore, GoesTo}
+use Rattle.tra_reader.specs.inside.GrowingGames.{AreFinished, IsMade, place_behind, AreFinishedBefore, EndsBefore}
+use Rattle.tra_reader.specs.inside.GrowingGames.{GoesTo}
 use Rattle.tra_reader.specs.inside.GrowingGames.{Growing, place_under_way, HoldsInOrder}
 use Rattle.std.proofs.lemmas.List.Elements.{All-push, All-weaker}
 use Rattle.transition_lines.proofs.Ends.{AreSmall}
