@@ -23,5 +23,6 @@ mod refusal;
 mod status;
 
 pub use answer::{Answer, is_mirrored, report_of};
+pub use causes::number_cause;
 pub use refusal::{Refusal, Text, refusal_line, usage_line};
 pub use status::Status;

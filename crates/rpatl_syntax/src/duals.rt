@@ -40,7 +40,8 @@ fn mirrored(bound: &Bound) -> Bound
     }
 }
 
-fn copied_team(alloc: Global, team: &Option<Names>) -> Result<Option<Names>, OutOfMemory>
+/// Makes a copy of a coalition, in memory of its own.
+pub fn copied_team(alloc: Global, team: &Option<Names>) -> Result<Option<Names>, OutOfMemory>
     ensures { IfOk result (λ copy. option_map names_of copy ≡ option_map names_of team.now) }
 {
     match team {
@@ -59,8 +60,9 @@ fn copied_names(alloc: Global, names: &Names) -> Result<Names, OutOfMemory>
     Ok(Names { list })
 }
 
+/// Makes a copy of a state formula, in memory of its own.
 #[cycle(copied)]
-fn copied_state(alloc: Global, state: &StateFormula) -> Result<StateFormula, OutOfMemory>
+pub fn copied_state(alloc: Global, state: &StateFormula) -> Result<StateFormula, OutOfMemory>
     ensures { IfOk result (λ copy. state_of copy ≡ state_of state.now) }
 {
     match state {

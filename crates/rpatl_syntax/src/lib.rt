@@ -7,7 +7,7 @@ mod duals;
 pub mod laws;
 mod print;
 
-pub use duals::dual;
+pub use duals::{copied_state, copied_team, dual};
 pub use formula_reader::{
     Bound, Formula, MOST_NESTED, MOST_STEPS, Names, PathKind, StateFormula, read_formula,
 };
