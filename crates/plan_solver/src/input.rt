@@ -25,7 +25,8 @@ pub struct Input<'a, 'q> {
     pub sure: &'a Marks,
     /// These are the states of value 0.
     pub zero: &'a Marks,
-    /// If the choices of the game cost something, each has a cost here, state by state, in units. Else the list is empty.
+    /// If the choices of the game cost something, each has a cost here, state by state, in units. Else the list is
+    /// empty.
     pub costs: &'a [u64],
     ghost lists: { ArePredecessors question.now.game predecessors.now },
     ghost components_all: { states_of components.now ≡ states question.now },
