@@ -58,12 +58,9 @@ fn has_excess(table: &[Bounds], wanted: &[u32]) -> bool
     requires units { All AreUnits table.now }
     ensures { result ≡ false }
 {
-    for state in wanted {
-        if table[*state as usize].upper > UNIT {
-            return true;
-        }
-    }
-    false
+    wanted
+        .iter()
+        .any(|state| table[*state as usize].upper > UNIT)
 }
 
 /// Takes the steps at the states in a row from place `from` to place `to` of a part that has those below `from`.

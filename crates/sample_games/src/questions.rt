@@ -9,11 +9,7 @@ use std::alloc::{AllocError, Global};
 fn all_of(alloc: Global, side: Side, states: u32) -> Result<Vec<Side>, AllocError>
     ensures { IfOk result (λ sides. length sides.items ≡ states) }
 {
-    let mut sides = Vec::new(alloc);
-    for _state in 0..states {
-        sides.push(side)?;
-    }
-    Ok(sides)
+    (0..states).map(|_state| side).collect(alloc)
 }
 
 // The minimiser owns one state, and the maximiser owns the others.
@@ -43,11 +39,7 @@ fn none_of(alloc: Global, states: u32) -> Result<Vec<bool>, AllocError>
     ensures many { IfOk result (λ marks. length marks.items ≡ states) }
     ensures none { IfOk result (λ marks. All (λ b. b ≡ false) marks.items) }
 {
-    let mut marks = Vec::new(alloc);
-    for _state in 0..states {
-        marks.push(false)?;
-    }
-    Ok(marks)
+    (0..states).map(|_state| false).collect(alloc)
 }
 
 /// Asks how likely this goal is reached if one side chooses at all states. No state is dead. No state is a goal if the
