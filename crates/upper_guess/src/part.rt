@@ -52,12 +52,7 @@ fn has_excess(table: &[u64], wanted: &[u32]) -> bool
     requires units { All (λ v. v ≤ unit) table.now }
     ensures { result ≡ false }
 {
-    for state in wanted {
-        if table[*state as usize] > UNIT {
-            return true;
-        }
-    }
-    false
+    wanted.iter().any(|state| table[*state as usize] > UNIT)
 }
 
 /// Fills in the up steps of the states from place `from` to place `to` of a part that has those below `from`.
