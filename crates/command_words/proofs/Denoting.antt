@@ -19,7 +19,7 @@ use Rattle.command_words.specs.Words.{solve_of}
 use Rattle.command_words.proofs.Ranges.{check_in_range, make_in_range}
 
 -- the values that were found are those that the words give
-values_found : (app : App) (command : Command) (words : List Text) (m : ArgMatches) → app_of command ≡ app
+pub values_found : (app : App) (command : Command) (words : List Text) (m : ArgMatches) → app_of command ≡ app
     → FindsIn command words m → ◌≡◌ {A = Text → Option Text} (value_in m) (value_of app words)
 values_found app command words m same found =
     subst (λ (a : App). ◌≡◌ {A = Text → Option Text} (value_in m) (value_of a words)) same

@@ -16,7 +16,7 @@ one_number default None m n of_m of_n = of_m ∙ sym of_n
 one_number default (Some w) m n of_m of_n = of_m.value ∙ sym of_n.value
 
 -- what has one test is one
-one_flag : (P : Type 0) (a b : Bool) → (IsTrue a ↔ P) → (IsTrue b ↔ P) → a ≡ b
+pub one_flag : (P : Type 0) (a b : Bool) → (IsTrue a ↔ P) → (IsTrue b ↔ P) → a ≡ b
 one_flag P true true of_a of_b = refl
 one_flag P false false of_a of_b = refl
 one_flag P true false of_a of_b = sym (of_b.1 (of_a.0 refl))
@@ -29,7 +29,7 @@ same_asked : (t l f t' l' f' : List ℕ) (o o' : Option (List ℕ)) → Some t �
 same_asked t l f t' l' f' o o' a b c d = cc (a, b, c, d)
 
 -- values ask one question
-one_asked : (value : Text → Option Text) (a b : Asked) → SayAsked value a → SayAsked value b → a ≡ b
+pub one_asked : (value : Text → Option Text) (a b : Asked) → SayAsked value a → SayAsked value b → a ≡ b
 one_asked value a b x y =
     same_asked a.tra a.lab a.formula b.tra b.lab b.formula a.own b.own (sym x.tra.given ∙ y.tra.given)
     (sym x.lab.given ∙ y.lab.given) (sym x.formula ∙ y.formula) (x.own ∙ sym y.own)

@@ -72,8 +72,8 @@ fn with_any_limits<'a>(alloc: Global, command: Command<'a>) -> Result<Command<'a
         .arg(option(alloc, "workers"))
 }
 
-// Makes a command of this name that asks a question.
-fn asked_command<'a>(alloc: Global, name: &'a str) -> Result<Command<'a>, AllocError>
+/// Makes a command of this name that asks a question.
+pub fn asked_command<'a>(alloc: Global, name: &'a str) -> Result<Command<'a>, AllocError>
     ensures { IfOk result (λ command. app_of command ≡ asked_app name.entry.now) }
 {
     bare_command(alloc, name)
@@ -99,14 +99,16 @@ fn with_run_limits<'a>(alloc: Global, command: Command<'a>) -> Result<Command<'a
     command.arg(rounds(alloc))?.arg(workers(alloc))
 }
 
-fn positional<'a>(alloc: Global, name: &'a str) -> Arg<'a>
+/// Makes a word that must be given, and is known by its place.
+pub fn positional<'a>(alloc: Global, name: &'a str) -> Arg<'a>
     ensures rule { rule_of result ≡ positional_rule name.entry.now }
     ensures local { result.global ≡ false }
 {
     Arg::new(alloc, name).required(true)
 }
 
-fn option<'a>(alloc: Global, name: &'a str) -> Arg<'a>
+/// Makes an option with a value.
+pub fn option<'a>(alloc: Global, name: &'a str) -> Arg<'a>
     ensures rule { rule_of result ≡ option_rule name.entry.now }
     ensures local { result.global ≡ false }
 {
@@ -143,7 +145,8 @@ fn workers<'a>(alloc: Global) -> Arg<'a>
     option(alloc, "workers").value_parser(clap::value_parser!(u32).range(1..=MOST_WORKERS))
 }
 
-fn flag<'a>(alloc: Global, name: &'a str) -> Arg<'a>
+/// Makes an option without a value.
+pub fn flag<'a>(alloc: Global, name: &'a str) -> Arg<'a>
     ensures rule { rule_of result ≡ flag_rule name.entry.now }
     ensures local { result.global ≡ false }
 {

@@ -13,7 +13,9 @@ mod refused;
 mod said;
 mod words;
 
-pub use refused::refused_words;
+pub use grammar::{asked_command, flag, option, positional};
+pub use refused::{fault_found, refused_words};
+pub use said::{asked_words, file_word, is_given};
 pub use words::{
-    AskedWords, AuditWords, CheckWords, CommandWords, MakeWords, SolveWords, read_words,
+    AskedWords, AuditWords, CheckWords, CommandWords, MakeWords, SolveWords, read_words, taken,
 };

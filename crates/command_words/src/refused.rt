@@ -55,8 +55,8 @@ fn fault_behind(alloc: Global, name: &str, words: &[String]) -> Result<String, O
     }
 }
 
-// Says what `clap` finds wrong, or what is wrong with the values that it finds.
-fn fault_found<'a>(
+/// Says what `clap` finds wrong, or what is wrong with the values that it finds. No clause says which text this is.
+pub fn fault_found<'a>(
     alloc: Global,
     command: Command<'a>,
     words: &'a [String],

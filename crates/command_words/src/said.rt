@@ -100,8 +100,8 @@ fn run_limits<'a>(matches: &ArgMatches<'a>) -> Option<RunLimits>
     })
 }
 
-// Returns the word of a file, if it is not empty.
-fn file_word(word: Option<&str>) -> Option<&str>
+/// Returns the word of a file, if it is not empty.
+pub fn file_word(word: Option<&str>) -> Option<&str>
     ensures { MatchOption result ((file : List ℕ) → NamesFile (option_map (λ w. w.now) word.entry) file → ⊥)
         (λ file. NamesFile (option_map (λ w. w.now) word.entry) file.now) }
 {
@@ -121,8 +121,8 @@ fn is_named_where_given(word: Option<&str>) -> bool
     }
 }
 
-// Returns whether a flag is given, by its value.
-fn is_given(value: Option<&str>) -> bool
+/// Returns whether a flag is given, by its value.
+pub fn is_given(value: Option<&str>) -> bool
     ensures { IsTrue result ↔ (option_map (λ w. w.now) value.entry ≡ Some (codes "true")) }
 {
     match value {

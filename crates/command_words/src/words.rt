@@ -178,8 +178,8 @@ fn read_make(alloc: Global, words: &[String]) -> Result<Option<MakeWords>, OutOf
     }
 }
 
-// Returns what the command finds in the words, or none if it does not take them.
-fn taken<'a>(
+/// Returns what the command finds in the words, or none if it does not take them.
+pub fn taken<'a>(
     command: Command<'a>,
     words: &'a [String],
 ) -> Result<Option<ArgMatches<'a>>, OutOfMemory>
