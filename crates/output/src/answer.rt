@@ -83,10 +83,10 @@ fn lines_of(
         states.now) }
     ensures values { IfOk result (λ lines. All HasValues lines.items) }
 {
-    let mut lines = Vec::with_capacity(alloc, states.len())?;
-    for state in states {
-        lines.push(line_of(mirrored, bound, how, lower, upper, *state))?;
-    }
+    let lines = states
+        .iter()
+        .map(|state| line_of(mirrored, bound, how, lower, upper, *state))
+        .collect(alloc)?;
     Ok(lines)
 }
 

@@ -118,12 +118,7 @@ pub(crate) fn has_open(question: &Question, sure: &Marks, zero: &Marks) -> bool
     requires sure { length sure.now ≡ states question.now }
     requires zero { length zero.now ≡ states question.now }
 {
-    for state in 0..question.game().states() {
-        if is_open(sure, zero, state) {
-            return true;
-        }
-    }
-    false
+    (0..question.game().states()).any(|state| is_open(sure, zero, state))
 }
 
 /// Returns the table with the unit where the value is 1, and 0 elsewhere.

@@ -96,12 +96,9 @@ impl EndComponents {
         question.invariant();
         let game = question.game();
         let own = self.lead_of(state);
-        for place in 0..game.edge_count(state, choice) {
-            if self.lead_of(game.edge(state, choice, place).to) != own {
-                return false;
-            }
-        }
-        true
+        (0..game.edge_count(state, choice)).all(|place| self.lead_of(
+            game.edge(state, choice, place).to,
+        ) == own)
     }
 }
 

@@ -76,12 +76,7 @@ fn leads_out(game: &Game, finite: &Marks, state: u32, choice: u32) -> bool
     requires choice { choice < length (choices_of game.now state) }
 {
     game.invariant();
-    for place in 0..game.edge_count(state, choice) {
-        if !finite.has(game.edge(state, choice, place).to) {
-            return true;
-        }
-    }
-    false
+    (0..game.edge_count(state, choice)).any(|place| !finite.has(game.edge(state, choice, place).to))
 }
 
 /// Returns what the unit is above each value.

@@ -9,7 +9,7 @@ use game_model::Game;
 /// list, and behind its end, a choice costs nothing.
 pub fn cost_of(costs: Option<&[u64]>, game: &Game, state: u32, choice: u32) -> u64
     requires { state < length game.now }
-    ensures { result ≡ cost_in (option_map (λ list. list.now) costs) game.now state choice }
+    ensures { result ≡ cost_in (option_map (λ list. list.now) costs.entry) game.now state choice }
 {
     let Some(costs) = costs else {
         return 0;
