@@ -178,6 +178,7 @@ plan_cause-one plan.StateCount plan.StateCount e = refl
 plan_cause-one plan.BadLine plan.BadLine e = refl
 plan_cause-one plan.NumberOutOfRange plan.NumberOutOfRange e = refl
 plan_cause-one plan.MissingLine plan.MissingLine e = refl
+plan_cause-one plan.Places plan.Places e = refl
 plan_cause-one a b e = absurd (omega (arith, at e 0, at e 1))
 
 pub upper-one : (m n : ℕ) (a b : UpperCause) → IsPrintable m → IsPrintable n → UpperPrintable a → UpperPrintable b
@@ -216,6 +217,7 @@ plan_cause-not_upper plan.StateCount m upper.OverOne e = omega (arith, at e 0, a
 plan_cause-not_upper plan.BadLine m upper.OverOne e = omega (arith, at e 0, at e 1)
 plan_cause-not_upper plan.NumberOutOfRange m upper.OverOne e = omega (arith, at e 0, at e 1)
 plan_cause-not_upper plan.MissingLine m upper.OverOne e = omega (arith, at e 0, at e 1)
+plan_cause-not_upper plan.Places m upper.OverOne e = omega (arith, at e 0, at e 1)
 plan_cause-not_upper cause m other e = omega (arith, at e 0, at e 1, at e 2)
 
 pub plan_cause-not_ranks : (cause : PlanCause) (m : ℕ) (other : RankCause)
@@ -227,6 +229,7 @@ plan_cause-not_ranks plan.StateCount m ranks.Value e = omega (arith, at e 0, at 
 plan_cause-not_ranks plan.BadLine m ranks.Value e = omega (arith, at e 0, at e 1)
 plan_cause-not_ranks plan.NumberOutOfRange m ranks.Value e = omega (arith, at e 0, at e 1)
 plan_cause-not_ranks plan.MissingLine m ranks.Value e = omega (arith, at e 0, at e 1)
+plan_cause-not_ranks plan.Places m ranks.Value e = omega (arith, at e 0, at e 1)
 plan_cause-not_ranks cause m other e = omega (arith, at e 0, at e 1, at e 2)
 
 pub upper-not_ranks : (m n : ℕ) (cause : UpperCause) (other : RankCause) → upper_text m cause ≡ ranks_text n other → ⊥

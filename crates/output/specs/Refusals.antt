@@ -118,6 +118,7 @@ plan_cause_text plan.StateCount = codes "StateCount"
 plan_cause_text plan.BadLine = codes "BadLine"
 plan_cause_text plan.NumberOutOfRange = codes "NumberOutOfRange"
 plan_cause_text plan.MissingLine = codes "MissingLine"
+plan_cause_text plan.Places = codes "Places"
 
 -- This text says why the upper table of a certificate, or a reply to it, is refused at a state.
 abbrev pub upper_text : ℕ → UpperCause → List ℕ

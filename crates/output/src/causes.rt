@@ -142,6 +142,7 @@ pub fn plan_cause(cause: PlanCause) -> &'static str
         PlanCause::BadLine => "BadLine",
         PlanCause::NumberOutOfRange => "NumberOutOfRange",
         PlanCause::MissingLine => "MissingLine",
+        PlanCause::Places => "Places",
     }
 }
 

@@ -7,7 +7,7 @@ use Rattle.text_lines.specs.Text.{fields_of, keep_line, is_nil}
 use Rattle.plan_text.specs.declared.fault.PlanFault.{PlanFault}
 use Rattle.plan_text.specs.declared.fault.PlanCause.TheVariants.{BadLine}
 use Rattle.plan_text.specs.Said.{fault_at}
-use Rattle.plan_text.specs.inside.Read.{end_said}
+use Rattle.plan_text.specs.Parts.{end_said}
 
 -- no field stands in the line
 abbrev pub IsBlank : List ℕ → Type 0

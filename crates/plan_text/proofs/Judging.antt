@@ -7,7 +7,7 @@ use Rattle.game_model.specs.Limits.{unit}
 use Rattle.text_lines.specs.Text.{saturated}
 use Rattle.plan_text.specs.Entries.{Entry, greatest_choice, greatest_rank}
 use Rattle.plan_text.specs.Said.{is_small, is_in_range, judged}
-use Rattle.plan_text.specs.inside.Read.{saturated_entry}
+use Rattle.plan_text.specs.Parts.{saturated_entry}
 
 leb-saturated : (n most : ℕ) → most < 2 ^ 64 - 1 → leb (saturated n) most ≡ leb n most
 leb-saturated n most room = grind (arith, nat_tests)

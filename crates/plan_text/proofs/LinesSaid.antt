@@ -10,6 +10,7 @@ use Rattle.game_model.specs.Limits.{unit}
 use Rattle.plan_text.specs.Entries.{Entry, IsInRange, IsSmall, greatest_rank}
 use Rattle.plan_text.specs.Said.{judged, is_in_range, is_small, entry_in, line_said}
 use Rattle.plan_text.specs.Certificate.{IsEntryLine}
+use Rattle.plan_text.proofs.StatesRead.{AreSaid}
 
 small : (choice : Option ℕ) → is_small choice ≡ true → IsSmall choice
 small None is = tt
@@ -74,3 +75,7 @@ not_blank version s line entry is = by (fields_of line) is.0
     by : (fields : List (List ℕ)) → entry_in version s fields ≡ Some entry → is_nil fields ≡ false
     by [] none = cc
     by (field ∷ fields) some = refl
+
+pub said_of_version : (version : Version) → AreSaid Entry (line_said version) (IsEntryLine version)
+said_of_version version =
+    record { one = line_said-one version; told = line_said-told version; some = not_blank version }

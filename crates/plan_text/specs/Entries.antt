@@ -4,13 +4,17 @@ use Rattle.std.specs.List.{range_with_len}
 use Rattle.game_model.specs.Limits.{unit}
 use Rattle.plan_text.specs.declared.plan.Plan.{Plan}
 
--- An entry has the bounds of a state, the choices of both sides, if they are given, and the rank.
-pub record Entry : Type 0 where
-  pub lower : ℕ
+-- An entry has the bounds of a state, which are values, the choices of both sides, if they are given, and the rank.
+pub record EntryOf (Value : Type 0) : Type 0 where
+  pub lower : Value
   pub choice : Option ℕ
   pub rank : ℕ
-  pub upper : ℕ
+  pub upper : Value
   pub reply : Option ℕ
+
+-- The values of a certificate of probabilities are counts of units.
+abbrev pub Entry : Type 0
+Entry = EntryOf ℕ
 
 -- No choice has a greater number: a word keeps it in 14 bits.
 abbrev pub greatest_choice : ℕ
@@ -25,13 +29,17 @@ abbrev pub IsSmall : Option ℕ → Type 0
 IsSmall None = Unit {0}
 IsSmall (Some choice) = choice ≤ greatest_choice
 
--- The bounds are values, and the choices and the rank are within their limits.
-pub record IsInRange (entry : Entry) : Type 0 where
-  pub lower : entry.lower ≤ unit
+-- The bounds are values within their limit, and so are the choices and the rank.
+pub record IsInRangeOf (Value : Type 0) (IsValue : Value → Type 0) (entry : EntryOf Value) : Type 0 where
+  pub lower : IsValue entry.lower
   pub choice : IsSmall entry.choice
   pub rank : entry.rank ≤ greatest_rank
-  pub upper : entry.upper ≤ unit
+  pub upper : IsValue entry.upper
   pub reply : IsSmall entry.reply
+
+-- A value is at most the unit.
+abbrev pub IsInRange : Entry → Type 0
+IsInRange = IsInRangeOf ℕ (λ value. value ≤ unit)
 
 -- The five lists of a plan have this length.
 pub record HasStates (plan : Plan) (states : ℕ) : Type 0 where

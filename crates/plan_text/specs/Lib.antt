@@ -3,6 +3,7 @@ pub mod Versions
 pub mod Entries
 pub mod Written
 pub mod Said
+pub mod Parts
 pub mod Certificate
 pub mod Laws
 pub mod inside

@@ -5,7 +5,7 @@ ghost use Rattle.std.specs.Prelude.{◌≡◌, option_map, IfOk};
 ghost use Rattle.text_lines.specs.Text.{fields_of, saturated};
 ghost use Rattle.plan_text.specs.Entries.{IsInRange};
 ghost use Rattle.plan_text.specs.Said.{line_said, entry_in, units_of, choice_in, is_small, is_in_range};
-ghost use Rattle.plan_text.specs.inside.Read.{saturated_entry};
+ghost use Rattle.plan_text.specs.Parts.{saturated_entry};
 
 use crate::fault::PlanCause;
 use crate::version::Version;
@@ -14,7 +14,7 @@ use std::marker::Model;
 use text_lines::{first_field, whole};
 
 /// No choice has a greater number.
-pub(crate) const GREATEST_CHOICE: u64 = 16_383;
+pub const GREATEST_CHOICE: u64 = 16_383;
 
 /// A line says this of its state. Contracts see it as an entry.
 #[derive(Drop)]
@@ -109,8 +109,8 @@ fn units_in(version: Version, field: &[u8]) -> Option<u64>
     Some(u64::from(*ones - b'0') * UNIT + decimals)
 }
 
-// Reads a choice, or `-` for none.
-fn choice_in(field: &[u8]) -> Option<Option<u64>>
+/// Reads a choice, or `-` for none. A number that is too great for 64 bits is the greatest one of 64 bits.
+pub fn choice_in(field: &[u8]) -> Option<Option<u64>>
     ensures { result ≡ option_map (option_map saturated) (choice_in field.now) }
 {
     match field {
@@ -119,7 +119,8 @@ fn choice_in(field: &[u8]) -> Option<Option<u64>>
     }
 }
 
-fn is_small(choice: Option<u64>) -> bool
+/// Returns whether the number of a choice, if one is given, is at most the greatest.
+pub fn is_small(choice: Option<u64>) -> bool
     ensures { result ≡ is_small choice }
 {
     match choice {

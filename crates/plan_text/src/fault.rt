@@ -5,7 +5,7 @@
 pub enum PlanCause {
     /// Memory ran out.
     OutOfMemory,
-    /// No line has the first field `certificate`.
+    /// No line has the first field `certificate`, or `rewards` where a certificate of rewards is read.
     NoCertificate,
     /// The version of the certificate is neither `1` nor `2`.
     Version,
@@ -17,6 +17,8 @@ pub enum PlanCause {
     NumberOutOfRange,
     /// The text ends before the last state's line.
     MissingLine,
+    /// The values of a certificate of rewards have more than 15 places.
+    Places,
 }
 
 /// A certificate's text has a fault at a line. Lines count from 1. Line 0 means the whole text, or that memory ran out.
@@ -33,7 +35,7 @@ impl PlanFault {
     ghost use Rattle.plan_text.specs.Said.{fault_at};
 
     /// Makes the fault that memory ran out.
-    pub(crate) fn out_of_memory() -> PlanFault
+    pub fn out_of_memory() -> PlanFault
         ensures { result ≡ fault_at 0 PlanCause.OutOfMemory }
     {
         PlanFault {

@@ -1,9 +1,10 @@
 //! The first line of a certificate is `certificate 2 N` for N states, or `certificate 1 N`.
 
-ghost use Rattle.std.specs.Prelude.{◌≡◌, ◌≤◌, ◌+◌, ℕ, [], Err, IfOk, MatchOption, MatchResult, length};
+ghost use Rattle.std.specs.Prelude.{◌≡◌, ◌≤◌, ◌+◌, ℕ, [], Err, Ok, IfOk, MatchOption, MatchResult, length};
 ghost use Rattle.text_lines.specs.Limits.{most_bytes};
 ghost use Rattle.text_lines.specs.Text.{lines_of, fields_of, number_of, significant};
-ghost use Rattle.plan_text.specs.Said.{entries_said, entries_from, header_said, heading_said, is_heading};
+ghost use Rattle.plan_text.specs.Said.{entries_said, entries_from, begins_with, header_said, heading_said};
+ghost use Rattle.plan_text.specs.Parts.{first_with};
 
 use crate::fault::{PlanCause, PlanFault};
 use crate::version::Version;
@@ -19,17 +20,34 @@ pub fn read_heading(text: &[u8], states: u32) -> Result<(Version, &[u8], u32), P
         (λ fault. entries_said text.now states ≡ Err fault) }
     ensures number { IfOk result (λ behind. behind.2 + length behind.1.now ≤ 1 + length text.now) }
 {
+    let (line, after, number) = find_first_line(text, b"certificate")?;
+    match check_heading(states, line) {
+        Ok(version) => Ok((version, after, number + 1)),
+        Err(cause) => Err(PlanFault {
+            line: number,
+            cause,
+        }),
+    }
+}
+
+/// Returns the first line whose first field is this word, the text after it, and the number of the line. Where no line
+/// begins with it, the text has no certificate of this kind.
+pub fn find_first_line<'text>(
+    text: &'text [u8],
+    word: &[u8],
+) -> Result<(&'text [u8], &'text [u8], u32), PlanFault>
+    requires { length text.now ≤ most_bytes }
+    ensures said { MatchResult result
+        (λ found. first_with word.now 1 (significant (lines_of text.now))
+        ≡ Ok (found.0.now, found.2, significant (lines_of found.1.now)))
+        (λ fault. first_with word.now 1 (significant (lines_of text.now)) ≡ Err fault) }
+    ensures number { IfOk result (λ found. found.2 + length found.1.now ≤ length text.now) }
+{
     let mut rest = text;
     let mut number = 1u32;
     while let Some((line, after)) = first_line(rest) {
-        if is_heading(line) {
-            return match check_heading(states, line) {
-                Ok(version) => Ok((version, after, number + 1)),
-                Err(cause) => Err(PlanFault {
-                    line: number,
-                    cause,
-                }),
-            };
+        if begins_with(word, line) {
+            return Ok((line, after, number));
         }
         rest = after;
         number += 1;
@@ -40,12 +58,12 @@ pub fn read_heading(text: &[u8], states: u32) -> Result<(Version, &[u8], u32), P
     })
 }
 
-// Returns whether the first field of a line is `certificate`.
-fn is_heading(line: &[u8]) -> bool
-    ensures { result ≡ is_heading (fields_of line.now) }
+// Returns whether the first field of a line is this word.
+fn begins_with(word: &[u8], line: &[u8]) -> bool
+    ensures { result ≡ begins_with word.now (fields_of line.now) }
 {
     match first_field(line) {
-        Some((name, _)) => name == b"certificate".as_slice(),
+        Some((name, _)) => name == word,
         None => false,
     }
 }

@@ -54,8 +54,8 @@ impl Plan {
     }
 }
 
-// Narrows a choice that is within its limit.
-fn narrowed(choice: Option<u64>) -> Option<u32>
+/// Narrows a choice that is within its limit.
+pub fn narrowed(choice: Option<u64>) -> Option<u32>
     requires { IsSmall choice }
     ensures { result ≡ choice }
 {

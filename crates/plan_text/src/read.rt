@@ -6,7 +6,8 @@ ghost use Rattle.text_lines.specs.Text.{lines_of, fields_of, is_nil, significant
 ghost use Rattle.plan_text.specs.Entries.{HasStates, IsInRange, entries_of};
 ghost use Rattle.plan_text.specs.Said.{IsOutOfMemory, entries_said, entries_from};
 ghost use Rattle.game_outside.specs.Answers.{AnswersOrWants};
-ghost use Rattle.plan_text.specs.inside.Read.{first_said, end_said};
+ghost use Rattle.plan_text.specs.Parts.{end_said};
+ghost use Rattle.plan_text.specs.inside.Read.{first_said};
 
 use crate::entry::StateLine;
 use crate::fault::{PlanCause, PlanFault};
@@ -88,8 +89,8 @@ fn read_state(
     }
 }
 
-// Says why a line is refused: it is missing if it and all lines after it are blank.
-fn cause_of(line: &[u8], after: &[u8], cause: PlanCause) -> PlanCause
+/// Says why a line is refused: it is missing if it and all lines after it are blank.
+pub fn cause_of(line: &[u8], after: &[u8], cause: PlanCause) -> PlanCause
     ensures { result ≡ (if is_nil (fields_of line.now) && is_nil
         (significant (lines_of after.now)) then PlanCause.MissingLine else cause) }
 {
@@ -100,8 +101,8 @@ fn cause_of(line: &[u8], after: &[u8], cause: PlanCause) -> PlanCause
     }
 }
 
-// Checks that all lines are blank. The first line that is not blank is at fault.
-fn check_end(text: &[u8], first: u32) -> Result<(), PlanFault>
+/// Checks that all lines are blank, the first of which has this number. The first line that is not blank is at fault.
+pub fn check_end(text: &[u8], first: u32) -> Result<(), PlanFault>
     requires { first + length text.now ≤ 1 + most_bytes }
     ensures { result ≡ end_said first (lines_of text.now) }
 {

@@ -79,8 +79,8 @@ fn append_value(text: &mut Vec<u8>, units: u64) -> Result<(), OutOfMemory>
     append_fixed(text, units)
 }
 
-// Appends a space and a choice.
-fn append_choice(text: &mut Vec<u8>, choice: Option<u32>) -> Result<(), OutOfMemory>
+/// Appends a space and a choice, or `-` if there is none.
+pub fn append_choice(text: &mut Vec<u8>, choice: Option<u32>) -> Result<(), OutOfMemory>
     ensures { OnOk result (text.new.items ≡ text.old.items ++ behind_space (choice_text choice)) }
 {
     append(text, b" ")?;
@@ -90,8 +90,8 @@ fn append_choice(text: &mut Vec<u8>, choice: Option<u32>) -> Result<(), OutOfMem
     }
 }
 
-// Appends a space and a rank.
-fn append_rank(text: &mut Vec<u8>, rank: u32) -> Result<(), OutOfMemory>
+/// Appends a space and a rank.
+pub fn append_rank(text: &mut Vec<u8>, rank: u32) -> Result<(), OutOfMemory>
     ensures { OnOk result (text.new.items ≡ text.old.items ++ behind_space (decimal rank)) }
 {
     append(text, b" ")?;

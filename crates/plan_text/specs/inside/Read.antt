@@ -1,29 +1,11 @@
--- The parts of a certificate are read in turn.
-use Rattle.std.specs.Prelude.{ℕ, ◌+◌, List, [], ◌∷◌, option_map, if◌then◌else◌, Result, Ok, Err}
-use Rattle.text_lines.specs.Text.{fields_of, is_nil, saturated}
+-- The line of a state is read.
+use Rattle.std.specs.Prelude.{ℕ, List, Result}
 use Rattle.plan_text.specs.declared.fault.PlanFault.{PlanFault}
-use Rattle.plan_text.specs.declared.fault.PlanCause.TheVariants.{BadLine, MissingLine}
 use Rattle.plan_text.specs.declared.version.Version.{Version}
 use Rattle.plan_text.specs.Entries.{Entry}
-use Rattle.plan_text.specs.Said.{fault_at, then_at, line_said}
-
--- A number that is too great for 64 bits becomes the greatest number of 64 bits.
-abbrev pub saturated_entry : Entry → Entry
-saturated_entry entry = record {
-  lower = entry.lower;
-  choice = option_map saturated entry.choice;
-  rank = saturated entry.rank;
-  upper = entry.upper;
-  reply = option_map saturated entry.reply;
-}
+use Rattle.plan_text.specs.Said.{line_said}
+use Rattle.plan_text.specs.Parts.{first_said_by}
 
 -- The first of these lines says an entry of this state, and the other lines follow.
 abbrev pub first_said : Version → ℕ → ℕ → List (List ℕ) → Result (Entry × List (List ℕ)) PlanFault
-first_said version s number [] = Err (fault_at number MissingLine)
-first_said version s number (line ∷ lines) = then_at number (line_said version s line) (λ entry. Ok (entry, lines))
-
--- All of these lines are blank, or the first that is not blank is at fault.
-abbrev pub end_said : ℕ → List (List ℕ) → Result (Unit {0}) PlanFault
-end_said number [] = Ok tt
-end_said number (line ∷ lines) = if is_nil (fields_of line) then end_said (number + 1) lines else Err
-    (fault_at number BadLine)
+first_said version = first_said_by (line_said version)

@@ -1,6 +1,6 @@
 use Rattle.std.proofs.Common.{◌≡◌, ◌≤◌, ◌+◌, length}
 use Rattle.text_lines.specs.Text.{lines_of}
-use Rattle.plan_text.specs.inside.Read.{end_said}
+use Rattle.plan_text.specs.Parts.{end_said}
 use Rattle.plan_text.proofs.read.check_end.Given as goal
 
 abbrev pub invariant-loop-line : goal.invariant-loop-line

@@ -3,7 +3,7 @@ use Rattle.std.specs.Option.{option_map}
 use Rattle.text_lines.specs.Text.{fields_of}
 use Rattle.plan_text.specs.declared.fault.PlanCause.TheVariants.{NumberOutOfRange}
 use Rattle.plan_text.specs.Said.{entry_in}
-use Rattle.plan_text.specs.inside.Read.{saturated_entry}
+use Rattle.plan_text.specs.Parts.{saturated_entry}
 use Rattle.plan_text.proofs.Judging.{judged-read}
 use Rattle.plan_text.proofs.entry.StateLine.read.Goals as goal
 

@@ -1,11 +1,12 @@
 use Rattle.std.proofs.Common.{◌≡◌, ◌≤◌, ◌+◌, length}
 use Rattle.text_lines.specs.Text.{lines_of, significant}
-use Rattle.plan_text.specs.Said.{entries_said, certificate_from}
-use Rattle.plan_text.proofs.heading.read_heading.Given as goal
+use Rattle.plan_text.specs.Parts.{first_with}
+use Rattle.plan_text.proofs.heading.find_first_line.Given as goal
 
 abbrev pub invariant-loop-line : goal.invariant-loop-line
 invariant-loop-line l = record {
-  said : certificate_from l.states l.number (significant (lines_of l.rest)) ≡ entries_said l.text l.states;
+  said : first_with l.word l.number (significant (lines_of l.rest))
+      ≡ first_with l.word 1 (significant (lines_of l.text));
   number : l.number + length l.rest ≤ 1 + length l.text;
 }
 
