@@ -1,0 +1,4 @@
+pub mod Caused
+pub mod Printable
+pub mod Refusals
+pub mod Status
