@@ -1,0 +1,3 @@
+pub mod Denoting
+pub mod Naming
+pub mod OneCommand
