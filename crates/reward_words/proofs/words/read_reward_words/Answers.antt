@@ -11,5 +11,5 @@ returns-in-len1-up c =
     let whole = first_and_rest string_bytes c.args.words.now c.name-item.result c.as_str.result.now
     c.in-len1-up.len_at_least c.name-item.is c.as_str.ensures.value in
     subst (λ (words : List Text). IfOk c.read_command.result
-    (λ read. MatchOption read (AreNoRewardCommand words) (λ command. AreRewardCommand words (reward_command_of command))))
-    whole c.read_command.ensures
+    (λ read. MatchOption read (AreNoRewardCommand words)
+    (λ command. AreRewardCommand words (reward_command_of command)))) whole c.read_command.ensures
