@@ -24,6 +24,8 @@ mod questions;
 #[cfg(test)]
 mod reward_formulas;
 #[cfg(test)]
+mod reward_lines;
+#[cfg(test)]
 mod rewards;
 #[cfg(test)]
 mod transitions;

@@ -10,24 +10,24 @@ use Rattle.verdicts.specs.Exact.{IsRight}
 use Rattle.verdicts.specs.Verdict.{verdict_by, verdict_of}
 
 -- over any unit: a threshold a/b that a lower bound reaches is at most n/d, and one that it exceeds is below
-reached : (u a b l n d : ℕ) → 0 < u → l * d ≤ u * n → a * u ≤ l * b → a * d ≤ n * b
+pub reached : (u a b l n d : ℕ) → 0 < u → l * d ≤ u * n → a * u ≤ l * b → a * d ≤ n * b
 reached u a b l n d positive low bound =
     let whole : u * (a * d) ≤ u * (n * b) = omega (arith, mul-le-mul_right d bound, mul-le-mul_right b low) in
     le_of_mul-le-mul_left whole positive
 
-exceeded : (u a b l n d : ℕ) → 1 ≤ d → l * d ≤ u * n → a * u < l * b → a * d < n * b
+pub exceeded : (u a b l n d : ℕ) → 1 ≤ d → l * d ≤ u * n → a * u < l * b → a * d < n * b
 exceeded u a b l n d some low bound =
     let more : (a * u + 1) * d ≤ l * b * d = mul-le-mul_right d (omega (arith, bound)) in
     let whole : u * (a * d) < u * (n * b) = omega (arith, more, some, mul-le-mul_right b low) in
     lt_of_mul-lt-mul_left u whole
 
 -- and one that an upper bound does not exceed is at least n/d, and one that it does not reach above it
-not_exceeded : (u a b h n d : ℕ) → 0 < u → u * n ≤ h * d → h * b ≤ a * u → n * b ≤ a * d
+pub not_exceeded : (u a b h n d : ℕ) → 0 < u → u * n ≤ h * d → h * b ≤ a * u → n * b ≤ a * d
 not_exceeded u a b h n d positive high bound =
     let whole : u * (n * b) ≤ u * (a * d) = omega (arith, mul-le-mul_right b high, mul-le-mul_right d bound) in
     le_of_mul-le-mul_left whole positive
 
-not_reached : (u a b h n d : ℕ) → 1 ≤ d → u * n ≤ h * d → h * b < a * u → n * b < a * d
+pub not_reached : (u a b h n d : ℕ) → 1 ≤ d → u * n ≤ h * d → h * b < a * u → n * b < a * d
 not_reached u a b h n d some high bound =
     let more : (h * b + 1) * d ≤ a * u * d = mul-le-mul_right d (omega (arith, bound)) in
     let whole : u * (n * b) < u * (a * d) = omega (arith, more, some, mul-le-mul_right b high) in

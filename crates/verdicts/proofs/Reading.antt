@@ -54,7 +54,7 @@ read_how text = get_or text 1 0
 read_next : List ℕ → ℕ
 read_next text = get_or text 2 0
 
-how-one : (a b : How) (r s : List ℕ) → HasCount a → HasCount b
+pub how-one : (a b : How) (r s : List ℕ) → HasCount a → HasCount b
     → how_text a ++ 32 ∷ r ≡ how_text b ++ 32 ∷ s → (a ≡ b) × (r ≡ s)
 unfolding read_how read_next
 how-one (Rounds m) (Rounds n) r s hm hn e =
@@ -91,7 +91,7 @@ verdict_read No r = refl
 verdict_read Undecided r = refl
 verdict_read Bracket r = refl
 
-verdict-one : (a b : Verdict) (r s : List ℕ) → verdict_text a ++ r ≡ verdict_text b ++ s → (a ≡ b) × (r ≡ s)
+pub verdict-one : (a b : Verdict) (r s : List ℕ) → verdict_text a ++ r ≡ verdict_text b ++ s → (a ≡ b) × (r ≡ s)
 verdict-one a b r s e =
     let read : Some a ≡ Some b =
     sym (verdict_read a r) ∙ ap (λ (t : List ℕ). read_verdict (get_or t 0 0)) e ∙ verdict_read b s in

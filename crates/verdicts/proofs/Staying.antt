@@ -18,12 +18,12 @@ exceeds-more p u v more is =
     lt-ltb (p.num * unit) (v * p.den) (le_trans (ltb-true (p.num * unit) (u * p.den) is) (mul-le-mul_right p.den more))
 
 -- a test that follows from another one
-not-back : (a b : Bool) → (b ≡ true → a ≡ true) → not a ≡ true → not b ≡ true
+pub not-back : (a b : Bool) → (b ≡ true → a ≡ true) → not a ≡ true → not b ≡ true
 not-back true b back is = absurd (cc)
 not-back false true back is = back refl
 not-back false false back is = refl
 
-by-more : (a b c d : Bool) → (a ≡ true → c ≡ true) → (b ≡ true → d ≡ true) → is_settling (verdict_by a b) ≡ true
+pub by-more : (a b c d : Bool) → (a ≡ true → c ≡ true) → (b ≡ true → d ≡ true) → is_settling (verdict_by a b) ≡ true
     → is_settling (verdict_by c d) ≡ true
 by-more a b true d first second is = refl
 by-more a b false true first second is = refl

@@ -17,4 +17,4 @@ mod verdict;
 
 pub use report::{How, ReportLine, report_text};
 pub use stop::StopRule;
-pub use verdict::{Verdict, settle};
+pub use verdict::{Verdict, settle, verdict_by};

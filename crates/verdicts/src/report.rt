@@ -52,7 +52,8 @@ impl ReportLine {
 impl How {
     ghost use Rattle.verdicts.specs.Report.{how_text};
 
-    fn append_to(self, text: &mut Vec<u8>) -> Result<(), OutOfMemory>
+    /// Appends the words that say where the bounds of a line come from, with a space before them.
+    pub fn append_to(self, text: &mut Vec<u8>) -> Result<(), OutOfMemory>
         ensures { OnOk result (text.new.items ≡ text.old.items ++ how_text self) }
     {
         match self {
@@ -85,7 +86,8 @@ impl Verdict {
         }
     }
 
-    fn end_line(self, text: &mut Vec<u8>) -> Result<(), OutOfMemory>
+    /// Appends a space, the printed word and the end of the line.
+    pub fn end_line(self, text: &mut Vec<u8>) -> Result<(), OutOfMemory>
         ensures { OnOk result (text.new.items ≡ text.old.items ++ ending self) }
     {
         append(text, b" ")?;

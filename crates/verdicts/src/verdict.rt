@@ -78,8 +78,8 @@ pub fn settle(bound: &Bound, lower: u64, upper: u64) -> Verdict
     }
 }
 
-// The first test that holds counts.
-fn verdict_by(holds: bool, fails: bool) -> Verdict
+/// Returns the verdict of two tests, of whether a bound holds and of whether it fails. The first one that holds counts.
+pub fn verdict_by(holds: bool, fails: bool) -> Verdict
     ensures { result ≡ verdict_by holds fails }
 {
     if holds {
