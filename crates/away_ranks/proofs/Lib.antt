@@ -1,0 +1,4 @@
+pub mod Later
+pub mod Sinking
+pub mod Lingering
+pub mod Found
