@@ -1,15 +1,17 @@
 -- A state that sinks joins those that have gone.
-use Rattle.std.proofs.Common.{◌≡◌, ◌≢◌, ℕ, ◌+◌, ◌<◌, ◌≤◌, Bool, true, false, List, [], ◌∷◌, ◌++◌, length, set, arith, sym, ap}
-use Rattle.std.proofs.Common.{◌∙◌, subst, inl, inr, Option, Some, None}
-use Rattle.std.specs.Prelude.{slice_index, slice_index_or}
+use Rattle.std.proofs.Common.{◌≡◌, ◌≢◌, ℕ, ◌+◌, ◌<◌, ◌≤◌, Bool, true, false, List, [], ◌∷◌, ◌++◌, length, get_or, set, arith, sym}
+use Rattle.std.proofs.Common.{ap, ◌∙◌, subst, inl, inr, Option, Some, None}
+use Rattle.std.specs.Prelude.{slice_index, slice_index_or, Contains}
 use Rattle.std.specs.List.{All}
 use Rattle.std.proofs.lemmas.Bool.{cases_eq, cases_lt}
-use Rattle.std.proofs.lemmas.List.{length-set, length_push, get_or-set_same, get_or-set_other}
-use Rattle.std.proofs.lemmas.List.Elements.{All-same, All-push, All-weaker}
+use Rattle.std.proofs.lemmas.List.{length-set, length_push, get_or_past, get_or-set_same}
+use Rattle.std.proofs.lemmas.List.Elements.{Contains-get_or, All-same, All-push, All-weaker}
 use Rattle.game_model.specs.declared.game.Side.TheVariants.{Max, Min}
 use Rattle.game_model.specs.Game.{choices_of, choice_of}
 use Rattle.game_model.specs.Query.{Query, IsQuery, states, is_goal, side_at}
 use Rattle.predecessors.specs.declared.lists.Move.{Move}
+use Rattle.predecessors.specs.Lists.{ArePredecessors}
+use Rattle.predecessors.proofs.Listed.{listed-exactly}
 use Rattle.attractors.specs.Attractor.{dead_excluded, meets, serves}
 use Rattle.attractors.specs.Search.{LeadsIn}
 use Rattle.attractors.proofs.Following.{serves-more, sides-differ}
@@ -21,6 +23,25 @@ use Rattle.away_ranks.specs.inside.Ranked.{how_many, HasGone, AreRanked}
 use Rattle.away_ranks.specs.inside.Search.{AreWaits, IsAwaySearch, HasJoined, IsBalanced}
 use Rattle.away_ranks.proofs.Later.{how_many-set}
 use Rattle.away_ranks.proofs.Sinking.{IsSinking, AreRanked-sinks}
+
+-- a move in the list of a state that has gone leads to it
+pub leads-back : (q : Query) (lists : List (List Move)) (gone : List Bool) (member k : ℕ) (list : List Move) (d : Move)
+    → ArePredecessors q.game lists → length gone ≡ states q → HasGone gone member
+    → list ≡ slice_index_or lists member [] → k < length list → LeadsIn q.game gone (get_or list k d)
+leads-back q lists gone member k list d are many out is_list l =
+    let inside : member < states q = elim (cases_lt member (length gone)) [
+      | inl below ↦ omega (arith, below, many)
+      | inr past ↦
+          let none : slice_index_or gone member false ≡ false = get_or_past gone member false past in
+          absurd (cc)
+    ] in
+    let m : Move = get_or list k d in
+    record {
+      to = member;
+      leads = (listed-exactly are m.state m.choice member inside).0
+          (subst (λ (xs : List Move). Contains xs m) is_list (Contains-get_or list k d l));
+      member = out;
+    }
 
 -- the same lists are ranked, too
 pub AreRanked-same : (q : Query) (gone gone' : List Bool) (choices choices' : List (Option ℕ)) (ranks ranks' : List ℕ)

@@ -4,4 +4,5 @@ pub mod Later
 pub mod Sinking
 pub mod Lingering
 pub mod Joining
+pub mod LettingGo
 pub mod Found

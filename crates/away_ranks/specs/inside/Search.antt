@@ -39,6 +39,7 @@ pub record HasLetGo (left : List Bool) (rank upto : ℕ) (more : Bool) (old new 
   pub ranked : length new.ranks.items ≡ length old.ranks.items
   pub choices : new.choices.items ≡ old.choices.items
   pub waits : new.waits.items ≡ old.waits.items
+  pub top : new.top ≡ old.top
   pub larger : (s : ℕ) → HasGone old.gone.items s → HasGone new.gone.items s
   pub kept : (s : ℕ) → HasGone old.gone.items s
       → slice_index new.ranks.items s ≡ slice_index old.ranks.items s
@@ -46,5 +47,5 @@ pub record HasLetGo (left : List Bool) (rank upto : ℕ) (more : Bool) (old new 
   pub only : (s : ℕ) → HasGone new.gone.items s → slice_index_or old.gone.items s false ≡ false
       → (slice_index_or left s false ≡ false) × (slice_index new.ranks.items s ≡ rank)
   pub todo : All (HasGone new.gone.items) new.todo.items
-  pub none : more ≡ false → new.gone.items ≡ old.gone.items
+  pub none : more ≡ false → (new.gone.items ≡ old.gone.items) × (new.ranks.items ≡ old.ranks.items)
   pub some : more ≡ true → how_many old.gone.items < how_many new.gone.items
