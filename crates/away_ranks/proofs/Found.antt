@@ -1,6 +1,6 @@
 -- What is found when no more states go.
 use Rattle.std.proofs.Common.{◌≡◌, ◌⊎◌, ℕ, ◌<◌, ◌≤◌, Bool, true, false, not, map, List, length, get_or, arith, refl, sym, ap}
-use Rattle.std.proofs.Common.{◌∙◌, subst, inl, inr, Option, Some, None, IsSomeAnd}
+use Rattle.std.proofs.Common.{◌∙◌, subst, inl, inr, Option, Some, None, IsSomeAnd, Result, Ok, Err, IfOk}
 use Rattle.std.specs.Prelude.{slice_index, slice_index_or}
 use Rattle.std.proofs.lemmas.Bool.{cases_Bool, cases_lt, not_from_true, not_from_false, not-false, not-true}
 use Rattle.std.proofs.lemmas.List.{get_or_past, get_or-map, length-map}
@@ -113,3 +113,9 @@ module _ (q : Query) (posed : IsQuery q) (gone finite : List Bool) (choices : Li
         );
         unmarked = away;
       }
+
+-- two facts on what was found
+pub both-ok : {X Y : Type 0} (r : Result X Y) (P Q R : X → Type 0) → ((x : X) → P x → Q x → R x) → IfOk r P
+    → IfOk r Q → IfOk r R
+both-ok (Ok x) P Q R join p q = join x p q
+both-ok (Err e) P Q R join p q = p
