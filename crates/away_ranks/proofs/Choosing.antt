@@ -1,9 +1,9 @@
 -- A state of the maximiser that is not left has a choice that does not serve.
-use Rattle.std.proofs.Common.{◌≡◌, ℕ, ◌+◌, ◌<◌, ◌≤◌, Bool, true, false, List, length, set, arith, sym, ap, ◌∙◌, subst}
+use Rattle.std.proofs.Common.{◌≡◌, ℕ, ◌<◌, ◌≤◌, Bool, true, false, List, length, set, arith, sym, ap, ◌∙◌}
 use Rattle.std.proofs.Common.{inl, inr, Option, Some, None}
 use Rattle.std.specs.Prelude.{slice_index_or}
 use Rattle.std.specs.List.{list_all}
-use Rattle.std.proofs.lemmas.Bool.{cases_eq, cases_lt}
+use Rattle.std.proofs.lemmas.Bool.{cases_lt}
 use Rattle.std.proofs.lemmas.List.{get_or-set_same, get_or-set_other}
 use Rattle.game_model.specs.declared.game.Side.TheVariants.{Max}
 use Rattle.game_model.specs.Dual.{other_side}

@@ -1,6 +1,6 @@
 -- What is found when no more states go.
 use Rattle.std.proofs.Common.{◌≡◌, ◌⊎◌, ℕ, ◌<◌, ◌≤◌, Bool, true, false, not, map, List, length, get_or, arith, refl, sym, ap}
-use Rattle.std.proofs.Common.{◌∙◌, subst, inl, inr, Option, Some, None, IsSomeAnd, Result, Ok, Err, IfOk}
+use Rattle.std.proofs.Common.{◌∙◌, subst, inl, inr, Option, IsSomeAnd, Result, Ok, Err, IfOk}
 use Rattle.std.specs.Prelude.{slice_index, slice_index_or}
 use Rattle.std.proofs.lemmas.Bool.{cases_Bool, cases_lt, not_from_true, not_from_false, not-false, not-true}
 use Rattle.std.proofs.lemmas.List.{get_or_past, get_or-map, length-map}
@@ -8,7 +8,6 @@ use Rattle.std.proofs.lemmas.List.Sums.{count_by-le-length}
 use Rattle.game_model.specs.declared.game.Side.{Side}
 use Rattle.game_model.specs.declared.game.Side.TheVariants.{Max, Min}
 use Rattle.game_model.specs.Game.{Distribution, choices_of, choice_of, no_edge}
-use Rattle.game_model.specs.Plans.{planned_place}
 use Rattle.game_model.specs.Query.{Query, IsQuery, states, is_goal, is_dead, side_at}
 use Rattle.game_laws.proofs.Planned.{planned_place-given}
 use Rattle.attractors.specs.Attractor.{IsAttractor}
@@ -17,11 +16,11 @@ use Rattle.almost_sure.specs.Values.{IsAlmostSure, AreAlmostSure, IsAway}
 use Rattle.almost_sure.proofs.Away.{IsAway-more}
 use Rattle.almost_sure.proofs.Nearer.{ComesNearer-grown}
 use Rattle.almost_sure.proofs.Reaching.{IsAlmostSure-within, IsAway-not_sure}
-use Rattle.expected_rewards.specs.Tables.{is_finite, MayBeTaken, Sinks, Lingers, IsAwayAt, AreAwayRanks}
+use Rattle.expected_rewards.specs.Tables.{is_finite, MayBeTaken, Sinks, Lingers, AreAwayRanks}
 use Rattle.expected_rewards.specs.Turned.{turned}
 use Rattle.expected_rewards.proofs.Turned.{turned-posed}
 use Rattle.away_ranks.specs.Choices.{HasChoices}
-use Rattle.away_ranks.specs.inside.Ranked.{how_many, HasGone, LeadsAway, IsRankedAt, AreRanked}
+use Rattle.away_ranks.specs.inside.Ranked.{HasGone, LeadsAway, AreRanked}
 
 -- if all states that are not left have gone, the others are almost sure
 pub are-sure : (q : Query) (gone left : List Bool) → IsQuery q

@@ -1,10 +1,9 @@
 -- A state that sinks joins those that have gone.
-use Rattle.std.proofs.Common.{◌≡◌, ◌≢◌, ℕ, ◌+◌, ◌<◌, ◌≤◌, Bool, true, false, List, [], ◌∷◌, ◌++◌, length, get_or, set, arith, sym}
+use Rattle.std.proofs.Common.{◌≡◌, ◌≢◌, ℕ, ◌+◌, ◌<◌, Bool, true, false, List, [], ◌∷◌, ◌++◌, length, get_or, set, arith, sym}
 use Rattle.std.proofs.Common.{ap, ◌∙◌, subst, inl, inr, Option, Some, None}
-use Rattle.std.specs.Prelude.{slice_index, slice_index_or, Contains}
-use Rattle.std.specs.List.{All}
-use Rattle.std.proofs.lemmas.Bool.{cases_eq, cases_lt}
-use Rattle.std.proofs.lemmas.List.{length-set, length_push, get_or_past, get_or-set_same}
+use Rattle.std.specs.Prelude.{slice_index_or, Contains}
+use Rattle.std.proofs.lemmas.Bool.{cases_lt}
+use Rattle.std.proofs.lemmas.List.{length_push, get_or_past, get_or-set_same}
 use Rattle.std.proofs.lemmas.List.Elements.{Contains-get_or, All-same, All-push, All-weaker}
 use Rattle.game_model.specs.declared.game.Side.TheVariants.{Max, Min}
 use Rattle.game_model.specs.Game.{choices_of, choice_of}
@@ -12,7 +11,7 @@ use Rattle.game_model.specs.Query.{Query, IsQuery, states, is_goal, side_at}
 use Rattle.predecessors.specs.declared.lists.Move.{Move}
 use Rattle.predecessors.specs.Lists.{ArePredecessors}
 use Rattle.predecessors.proofs.Listed.{listed-exactly}
-use Rattle.attractors.specs.Attractor.{dead_excluded, meets, serves}
+use Rattle.attractors.specs.Attractor.{dead_excluded, serves}
 use Rattle.attractors.specs.Search.{LeadsIn}
 use Rattle.attractors.proofs.Following.{serves-more, sides-differ}
 use Rattle.attractors.proofs.Meeting.{meets-at}

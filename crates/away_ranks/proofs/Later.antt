@@ -1,11 +1,11 @@
 -- What leads away still does so when more states go.
 use Rattle.std.proofs.Common.{◌≡◌, ◌≢◌, ℕ, ◌+◌, ◌<◌, Bool, true, false, cond, List, length, get_or, set, arith, refl, sym, ap}
-use Rattle.std.proofs.Common.{◌∙◌, subst, inl, inr, Option, None}
+use Rattle.std.proofs.Common.{◌∙◌, inl, inr, Option, None}
 use Rattle.std.specs.Prelude.{slice_index, slice_index_or}
 use Rattle.std.proofs.lemmas.List.Sums.{sum_by-set}
 use Rattle.game_model.specs.Game.{Distribution, no_edge}
 use Rattle.game_model.specs.Query.{Query}
-use Rattle.away_ranks.specs.inside.Ranked.{how_many, HasGone, SinksIn, LingersIn, LeadsAway, IsRankedAt}
+use Rattle.away_ranks.specs.inside.Ranked.{how_many, HasGone, LeadsAway, IsRankedAt}
 
 -- more states have gone, and the choices and the ranks of the others are as they were
 pub record IsLater (gone more : List Bool) (choices later : List (Option ℕ)) (ranks higher : List ℕ) : Type 0 where

@@ -1,17 +1,16 @@
 -- The states that are not left linger.
-use Rattle.std.proofs.Common.{◌≡◌, ◌⊎◌, ℕ, suc, ◌+◌, ◌<◌, ◌≤◌, Bool, true, false, List, length, get_or, arith, refl, sym, ap}
-use Rattle.std.proofs.Common.{◌∙◌, subst, inl, inr, Option, None}
+use Rattle.std.proofs.Common.{◌≡◌, ℕ, suc, ◌+◌, ◌<◌, ◌≤◌, Bool, true, false, List, length, get_or, arith, refl, sym, ap}
+use Rattle.std.proofs.Common.{◌∙◌, subst, inl, inr, Option}
 use Rattle.std.specs.Prelude.{slice_index, slice_index_or}
 use Rattle.std.specs.List.{All}
 use Rattle.std.proofs.lemmas.Bool.{cases_Bool, cases_lt}
 use Rattle.std.proofs.lemmas.List.{get_or_past}
 use Rattle.game_model.specs.declared.game.Edge.{Edge}
-use Rattle.game_model.specs.declared.game.Side.TheVariants.{Max, Min}
 use Rattle.game_model.specs.Game.{Distribution, no_distribution, no_edge, choices_of, choice_of}
 use Rattle.game_model.specs.Dual.{other_side}
 use Rattle.game_model.specs.Query.{Query, IsQuery, states, is_goal, side_at}
 use Rattle.game_model.proofs.Choices.{IsChoiceOf, IsChoiceOf-choice_of}
-use Rattle.attractors.specs.Attractor.{meets, serves, attracts, is_attracted, IsAttractor}
+use Rattle.attractors.specs.Attractor.{serves, attracts, IsAttractor}
 use Rattle.attractors.proofs.Tests.{any-none}
 use Rattle.attractors.proofs.Meeting.{meets-successor}
 use Rattle.attractors.proofs.Serving.{serves-not}

@@ -1,4 +1,4 @@
-use Rattle.std.proofs.Common.{◌≡◌, ℕ, List, Bool, map, not, ap, ◌∙◌}
+use Rattle.std.proofs.Common.{◌≡◌, List, Bool, map, not, ap, ◌∙◌}
 use Rattle.away_ranks.proofs.Found.{AreAlmostSure-found, AreAwayRanks-found, HasChoices-found}
 use Rattle.away_ranks.proofs.away_ranks.Goals as goal
 

@@ -1,4 +1,4 @@
-use Rattle.std.proofs.Common.{◌≡◌, ◌≤◌, ◌<◌, ◌+◌, ℕ, true, false, length, refl, arith, sym, ap, ◌∙◌, subst, inl, inr, Some}
+use Rattle.std.proofs.Common.{◌≡◌, ◌≤◌, ◌<◌, ℕ, true, false, length, arith, sym, ap, ◌∙◌, subst, inl, inr, Some}
 use Rattle.std.proofs.Common.{List, Bool, None}
 use Rattle.std.specs.Prelude.{slice_index, slice_index_or, slice_set}
 use Rattle.std.proofs.lemmas.Bool.{cases_lt}
@@ -9,7 +9,7 @@ use Rattle.game_model.specs.Game.{choices_of, choice_of}
 use Rattle.game_model.specs.Query.{states, is_goal, side_at}
 use Rattle.attractors.specs.Attractor.{dead_excluded, serves}
 use Rattle.away_ranks.proofs.Sinking.{IsSinking}
-use Rattle.away_ranks.proofs.Joining.{IsReady, sinks-by, sinks-all, joined-search, joined-larger, joined-balance}
+use Rattle.away_ranks.proofs.Joining.{IsReady, sinks-by, sinks-all, joined-search, joined-balance}
 use Rattle.away_ranks.proofs.search.AwaySearch.follow.Goals as goal
 use Rattle.away_ranks.proofs.search.AwaySearch.follow.Goals.{in-Max, in-Min+else-index-step+else-next-choices_of}
 

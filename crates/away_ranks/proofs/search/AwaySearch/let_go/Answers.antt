@@ -1,11 +1,10 @@
-use Rattle.std.proofs.Common.{◌≡◌, ◌≤◌, ◌<◌, ◌+◌, ℕ, true, false, Bool, length, arith, sym, ap, ◌∙◌, subst, rules}
+use Rattle.std.proofs.Common.{◌≡◌, ◌≤◌, ◌<◌, ◌+◌, ℕ, true, false, Bool, length, arith, sym, ap, ◌∙◌, subst}
 use Rattle.std.specs.Prelude.{slice_index_or}
 use Rattle.std.proofs.lemmas.List.{get_or_read}
 use Rattle.game_model.specs.Query.{states}
 use Rattle.away_ranks.specs.declared.search.AwaySearch.{AwaySearch}
-use Rattle.away_ranks.specs.inside.Ranked.{HasGone}
 use Rattle.away_ranks.specs.inside.Search.{HasLetGo}
-use Rattle.away_ranks.proofs.LettingGo.{HasLetGo-none, HasLetGo-passes, HasLetGo-joins, let-go-more, let-go-waits}
+use Rattle.away_ranks.proofs.LettingGo.{HasLetGo-passes, HasLetGo-joins, let-go-more, let-go-waits}
 use Rattle.away_ranks.proofs.LettingGo.{let-go-none}
 use Rattle.away_ranks.proofs.search.AwaySearch.let_go.Goals as goal
 use Rattle.away_ranks.proofs.search.AwaySearch.let_go.Goals.{then-not-left-place+then-not-index+in_ok-join}

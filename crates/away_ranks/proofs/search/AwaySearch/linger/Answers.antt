@@ -1,6 +1,5 @@
-use Rattle.std.proofs.Common.{◌≡◌, ℕ, ◌<◌, List, Bool, true, false, subst, sym, ap, ◌∙◌}
+use Rattle.std.proofs.Common.{◌≡◌, List, Bool, true, false, subst, ap, ◌∙◌}
 use Rattle.std.specs.Prelude.{slice_index_or}
-use Rattle.game_model.specs.Query.{states}
 use Rattle.attractors.specs.Attractor.{IsAttractor}
 use Rattle.almost_sure.specs.ExcludedSets.{gone_excluded}
 use Rattle.expected_rewards.specs.Turned.{turned}

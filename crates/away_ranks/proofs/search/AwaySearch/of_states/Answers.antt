@@ -1,4 +1,4 @@
-use Rattle.std.proofs.Common.{◌≡◌, ℕ, length, replicate, rules, ap, ◌∙◌, Option, None, false}
+use Rattle.std.proofs.Common.{◌≡◌, length, replicate, rules, ap, ◌∙◌, None, false}
 use Rattle.std.proofs.lemmas.List.{length-replicate}
 use Rattle.std.proofs.lemmas.List.Elements.{All-same, All-nil}
 use Rattle.game_model.specs.Query.{states}
