@@ -94,6 +94,9 @@ module _ (q : Query) (posed : IsQuery q) (gone finite : List Bool) (choices : Li
   few : top ≤ states q
   few = omega (arith, h.few, count_by-le-length (λ (x : Bool). x) gone, h.many)
 
+  pub ranks-few : (s : ℕ) → s < states q → is_finite finite s ≡ false → slice_index ranks s ≤ states q
+  ranks-few s inside away = omega (arith, h.low s (has-gone s inside away), few)
+
   pub AreAlmostSure-found : ((s : ℕ) → s < states q → slice_index_or gone s false ≡ false
       → IsAlmostSure (turned q) s) → AreAlmostSure (turned q) finite
   AreAlmostSure-found sure =

@@ -12,7 +12,7 @@
 //! all before. If no state lingers, the states that are left are the finite ones.
 //!
 //! The time is linear in the edges for each round, and for the states that sink in all rounds together. No contract
-//! states it. A rank is at most the number of states.
+//! states it.
 #![tactic(auto)]
 
 ghost use Rattle.std.specs.Prelude.{◌≡◌, ℕ, ◌<◌, ◌≤◌, false, length, slice_index, IfOk};
@@ -20,7 +20,7 @@ ghost use Rattle.game_model.specs.Query.{states, is_dead};
 ghost use Rattle.predecessors.specs.Lists.{ArePredecessors};
 ghost use Rattle.almost_sure.specs.Values.{AreAlmostSure};
 ghost use Rattle.expected_rewards.specs.Turned.{turned};
-ghost use Rattle.expected_rewards.specs.Tables.{AreAwayRanks};
+ghost use Rattle.expected_rewards.specs.Tables.{is_finite, AreAwayRanks};
 ghost use Rattle.away_ranks.specs.Choices.{HasChoices};
 
 mod left;
@@ -61,6 +61,9 @@ pub fn away_ranks(
     ensures away { IfOk result (λ away.
         AreAwayRanks question.now away.finite away.choices.items (slice_index away.ranks.items)) }
     ensures choices { IfOk result (λ away. HasChoices question.now away.finite away.choices.items) }
+    // No rank is greater than the number of states.
+    ensures low { IfOk result (λ away. (s : ℕ) → s < states question.now → is_finite away.finite s ≡ false
+        → slice_index away.ranks.items s ≤ states question.now) }
     ensures planned { IfOk result (λ away. length away.choices.items ≡ states question.now) }
     ensures ranked { IfOk result (λ away. length away.ranks.items ≡ states question.now) }
 {

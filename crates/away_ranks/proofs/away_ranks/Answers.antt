@@ -1,5 +1,5 @@
 use Rattle.std.proofs.Common.{◌≡◌, List, Bool, map, not, ap, ◌∙◌}
-use Rattle.away_ranks.proofs.Found.{AreAlmostSure-found, AreAwayRanks-found, HasChoices-found}
+use Rattle.away_ranks.proofs.Found.{AreAlmostSure-found, AreAwayRanks-found, HasChoices-found, ranks-few}
 use Rattle.away_ranks.proofs.away_ranks.Goals as goal
 
 rest : (c : goal.After-drop-turned-inside-4) → c.of_list.result ≡ map not c.linger.new.self.gone.items
@@ -23,3 +23,9 @@ returns-clause-choices c =
     let search = c.linger.new.self in
     HasChoices-found c.args.question.now c.invariant.ensures search.gone.items c.of_list.result
     search.choices.items search.ranks.items search.top c.in_ok-linger.ensures.search.ranked (rest c)
+
+pub returns-clause-low : goal.returns-clause-low
+returns-clause-low c =
+    let search = c.linger.new.self in
+    ranks-few c.args.question.now c.invariant.ensures search.gone.items c.of_list.result search.choices.items
+    search.ranks.items search.top c.in_ok-linger.ensures.search.ranked (rest c)
