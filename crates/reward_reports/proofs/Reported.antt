@@ -18,10 +18,10 @@ use Rattle.verdicts.specs.declared.report.How.{How}
 use Rattle.verdicts.specs.declared.verdict.Verdict.TheVariants.{Undecided}
 use Rattle.verdicts.specs.Report.{HasCount}
 use Rattle.reward_verdicts.specs.Report.{reward_report}
-use Rattle.reward_verdicts.specs.Truth.{IsBetween, IsRight}
+use Rattle.reward_verdicts.specs.Truth.{IsBetween, IsRight, IsUpTo}
 use Rattle.reward_verdicts.specs.Verdict.{reward_verdict_of}
 use Rattle.output.specs.declared.status.Status.{Status}
-use Rattle.reward_reports.specs.Printed.{reward_line_of, reward_lines_of, reward_status_of}
+use Rattle.reward_reports.specs.Printed.{lower_of, upper_of, reward_line_of, reward_lines_of, reward_status_of}
 use Rattle.reward_reports.specs.Reports.{IsLeftOpen, IsRightLine, IsRewardCertificate, IsRewardReport}
 
 -- 1. The rewards of the tables are rounded, and their values are within the limit.
@@ -57,10 +57,14 @@ abbrev pub AreLeftOpen : Type 0
 AreLeftOpen = (bound : RewardBound) (places : ℕ) (lower upper : Option ℕ)
     → reward_verdict_of bound places lower upper ≡ Undecided → IsLeftOpen bound places lower upper
 
+-- the lower value of each state is at most its upper value
+abbrev pub AreInOrder : Certificate → Type 0
+AreInOrder c = (s : ℕ) → s < states c.question → IsUpTo (lower_of c s) (upper_of c s)
+
 line-right : (q : Query) → IsQuery q → AreVerdictsRight → AreLeftOpen → (bound : RewardBound) (how : How)
-    → HasCount how → (places : ℕ) (c : Certificate) → HaveValues c → c.question ≡ q → (s : ℕ) → s < states q
-    → IsRightLine bound places (reward_line_of bound how places c s)
-line-right q posed right open_ bound how counted places c values same s inside =
+    → HasCount how → (places : ℕ) (c : Certificate) → HaveValues c → AreInOrder c → c.question ≡ q → (s : ℕ)
+    → s < states q → IsRightLine bound places (reward_line_of bound how places c s)
+line-right q posed right open_ bound how counted places c values ordered same s inside =
     let within : s < states c.question = subst (λ (p : Query). s < states p) (sym same) inside in
     record {
       fits = record {
@@ -69,6 +73,7 @@ line-right q posed right open_ bound how counted places c values same s inside =
         lower = printed-fits (is_finite c.finite s) (c.lower s) (values.lower s within);
         upper = printed-fits (is_finite c.bounded s) (c.upper s) (values.upper s within);
       };
+      ordered = ordered s within;
       right = λ value between. right bound places _ _ value between;
       left_open = λ is. open_ bound places _ _ is;
     }
@@ -77,21 +82,22 @@ line-right q posed right open_ bound how counted places c values same s inside =
 
 pub reported : {X E : Type 0} (text : X → List ℕ) (ends : X → Status) (q : Query) (exact : ExactRewards)
     (initial : List ℕ) (bound : RewardBound) (how : How) (places : ℕ) (c : Certificate)
-    → IsRewardCertificate q exact places c → All (λ s. s < states q) initial → HasCount how
+    → IsRewardCertificate q exact places c → AreInOrder c → All (λ s. s < states q) initial → HasCount how
     → AreVerdictsRight → AreLeftOpen → (result : Result X E)
     → IfOk result (λ answer. text answer ≡ reward_report places (reward_lines_of bound how places c initial))
     → IfOk result (λ answer. ends answer ≡ reward_status_of (reward_lines_of bound how places c initial))
     → IfOk result (λ answer. IsRewardReport q exact initial bound how places c (text answer) (ends answer))
-reported text ends q exact initial bound how places c certificate inside counted right open_ (Ok answer) written ended =
+reported text ends q exact initial bound how places c certificate ordered inside counted right open_ (Ok answer) written ended =
     record {
       certificate = certificate;
       inside = inside;
       lines = All-map (IsRightLine bound places) (reward_line_of bound how places c) initial
           (All-weaker (λ s. s < states q) (λ s. IsRightLine bound places (reward_line_of bound how places c s))
-          (line-right q certificate.posed right open_ bound how counted places c certificate.values certificate.same)
+          (line-right q certificate.posed right open_ bound how counted places c certificate.values ordered
+          certificate.same)
           initial inside);
       written = written;
       ends = ended;
     }
-reported text ends q exact initial bound how places c certificate inside counted right open_ (Err error) written ended
+reported text ends q exact initial bound how places c certificate ordered inside counted right open_ (Err error) written ended
     = tt

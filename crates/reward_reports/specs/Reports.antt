@@ -12,7 +12,7 @@ use Rattle.verdicts.specs.declared.report.How.{How}
 use Rattle.verdicts.specs.declared.verdict.Verdict.TheVariants.{Undecided}
 use Rattle.reward_verdicts.specs.declared.report.RewardLine.{RewardLine}
 use Rattle.reward_verdicts.specs.Report.{IsRewardLine, reward_report}
-use Rattle.reward_verdicts.specs.Truth.{IsBetween, IsMetBy, IsRight}
+use Rattle.reward_verdicts.specs.Truth.{IsBetween, IsMetBy, IsRight, IsUpTo}
 use Rattle.output.specs.declared.status.Status.{Status}
 use Rattle.reward_reports.specs.Printed.{reward_lines_of, reward_status_of}
 
@@ -45,10 +45,12 @@ pub record IsLeftOpen (bound : RewardBound) (places : ℕ) (lower upper : Option
   pub other_between : IsBetween places lower upper other
   pub missed : ¬ IsMetBy bound other
 
--- A line is right, whatever value lies between its bounds: True is true of the value, and False is false of it. It is
--- Undecided only if its bounds leave the threshold open.
+-- A line is right. Its lower bound is at most its upper one, and if it is infinite, no upper one is claimed. Whatever
+-- value lies between them, True is true of the value, and False is false of it. The line is Undecided only if its
+-- bounds leave the threshold open.
 pub record IsRightLine (bound : RewardBound) (places : ℕ) (line : RewardLine) : Type 0 where
   pub fits : IsRewardLine line
+  pub ordered : IsUpTo line.lower line.upper
   pub right : (value : Option Fraction) → IsBetween places line.lower line.upper value
       → IsRight bound value line.verdict
   pub left_open : line.verdict ≡ Undecided → IsLeftOpen bound places line.lower line.upper

@@ -13,7 +13,7 @@ ghost use Rattle.output.specs.Status.{IsAnswer};
 ghost use Rattle.reward_reports.specs.Printed.{reward_lines_of, reward_status_of};
 ghost use Rattle.reward_reports.specs.Reports.{IsRewardReport};
 
-use crate::laws::undecided_rewards_are_left_open;
+use crate::laws::{accepted_bounds_are_in_order, undecided_rewards_are_left_open};
 use crate::lines::{lines_of, status_of};
 use game_outside::OutOfMemory;
 use output::Answer;
@@ -76,9 +76,10 @@ pub fn reward_report_of(
         answer.text.items answer.status) }
     ensures answer { IfOk result (λ answer. IsAnswer answer.status) }
 {
-    // These calls do nothing: they recall what numbers a line may name, and three laws.
+    // These calls do nothing: they recall what numbers a line may name, and four laws.
     known_count(how);
     accepted_bounds_are_exact();
+    accepted_bounds_are_in_order();
     reward_verdicts_are_right();
     undecided_rewards_are_left_open();
     report_rewards(alloc, tables, places, bound, how, initial)

@@ -25,6 +25,8 @@ returns-clause-report c =
           tables.posed tables.alive tables.many_bounded paid both_ways (have-values tables) c.requires.accepted;
     } in
     reported (λ answer. answer.text.items) (λ answer. answer.status) q exact c.args.initial.now c.args.bound.now
-    c.args.how places (said tables) certificate c.requires.inside c.known_count.ensures
+    c.args.how places (said tables) certificate
+    (c.accepted_bounds_are_in_order.ensures (said tables) exact places tables.posed tables.alive tables.many_bounded
+    both_ways (have-values tables) c.requires.accepted) c.requires.inside c.known_count.ensures
     c.reward_verdicts_are_right.ensures c.undecided_rewards_are_left_open.ensures c.report_rewards.result
     c.report_rewards.ensures.text c.report_rewards.ensures.status
