@@ -87,17 +87,15 @@ pub reported : {X E : Type 0} (text : X → List ℕ) (ends : X → Status) (q :
     → IfOk result (λ answer. text answer ≡ reward_report places (reward_lines_of bound how places c initial))
     → IfOk result (λ answer. ends answer ≡ reward_status_of (reward_lines_of bound how places c initial))
     → IfOk result (λ answer. IsRewardReport q exact initial bound how places c (text answer) (ends answer))
-reported text ends q exact initial bound how places c certificate ordered inside counted right open_ (Ok answer) written ended =
+reported text ends q exact initial bound how places c is ordered inside counted right open_ (Ok answer) written ended =
     record {
-      certificate = certificate;
+      certificate = is;
       inside = inside;
       lines = All-map (IsRightLine bound places) (reward_line_of bound how places c) initial
           (All-weaker (λ s. s < states q) (λ s. IsRightLine bound places (reward_line_of bound how places c s))
-          (line-right q certificate.posed right open_ bound how counted places c certificate.values ordered
-          certificate.same)
+          (line-right q is.posed right open_ bound how counted places c is.values ordered is.same)
           initial inside);
       written = written;
       ends = ended;
     }
-reported text ends q exact initial bound how places c certificate ordered inside counted right open_ (Err error) written ended
-    = tt
+reported text ends q exact initial bound how places c is ordered inside counted right open_ (Err e) written ended = tt

@@ -24,9 +24,9 @@ lower_of c s = value_at c.finite c.lower s
 abbrev pub upper_of : Certificate → ℕ → Option ℕ
 upper_of c s = value_at c.bounded c.upper s
 
--- The line of a state has its values, where they come from, and what they say of the bound of the formula. For a coin
--- that is tossed until it shows heads, with a reward of 1 for a toss and without places, a certificate of `solve` gives
--- the first of these lines. The second one is that of a state from which a goal can be missed for ever.
+-- The line of a state has its values, where they come from, and what they say of the bound of the formula. A coin is
+-- tossed until it shows heads, and a toss is paid 1. The tables of a solver give the first of these lines in units of
+-- no places. The second one is the line of a state from which the maximiser can miss the goals for ever.
 --
 --     state 0 lower 2 upper 2 solved Bracket
 --     state 0 lower infinite upper infinite solved Bracket
