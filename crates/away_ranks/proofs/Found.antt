@@ -2,8 +2,8 @@
 use Rattle.std.proofs.Common.{◌≡◌, ◌⊎◌, ℕ, ◌<◌, ◌≤◌, Bool, true, false, not, map, List, length, get_or, arith, refl, sym, ap}
 use Rattle.std.proofs.Common.{◌∙◌, subst, inl, inr, Option, IsSomeAnd, Result, Ok, Err, IfOk}
 use Rattle.std.specs.Prelude.{slice_index, slice_index_or}
-use Rattle.std.proofs.lemmas.Bool.{cases_Bool, cases_lt, not_from_true, not_from_false, not-false, not-true}
-use Rattle.std.proofs.lemmas.List.{get_or_past, get_or-map, length-map}
+use Rattle.std.proofs.lemmas.Bool.{cases_Bool, not_from_true, not_from_false, not-false, not-true}
+use Rattle.std.proofs.lemmas.List.{get_or-map, length-map}
 use Rattle.std.proofs.lemmas.List.Sums.{count_by-le-length}
 use Rattle.game_model.specs.declared.game.Side.{Side}
 use Rattle.game_model.specs.declared.game.Side.TheVariants.{Max, Min}
@@ -11,6 +11,7 @@ use Rattle.game_model.specs.Game.{Distribution, choices_of, choice_of, no_edge}
 use Rattle.game_model.specs.Query.{Query, IsQuery, states, is_goal, is_dead, side_at}
 use Rattle.game_laws.proofs.Planned.{planned_place-given}
 use Rattle.attractors.specs.Attractor.{IsAttractor}
+use Rattle.attractors.proofs.Least.{member-inside}
 use Rattle.almost_sure.specs.ExcludedSets.{gone_excluded}
 use Rattle.almost_sure.specs.Values.{IsAlmostSure, AreAlmostSure, IsAway}
 use Rattle.almost_sure.proofs.Away.{IsAway-more}
@@ -43,10 +44,7 @@ module _ (q : Query) (posed : IsQuery q) (gone finite : List Bool) (choices : Li
       ∙ get_or-map not gone s false false (omega (arith, inside, h.many))
 
   gone-inside : (s : ℕ) → HasGone gone s → s < states q
-  gone-inside s out = elim (cases_lt s (length gone)) [
-    | inl below ↦ omega (arith, below, h.many)
-    | inr past ↦ let none : slice_index_or gone s false ≡ false = get_or_past gone s false past in absurd (cc)
-  ]
+  gone-inside s out = omega (arith, member-inside gone s out, h.many)
 
   infinite : (s : ℕ) → HasGone gone s → is_finite finite s ≡ false
   infinite s out = finite-at s (gone-inside s out) ∙ not_from_true (slice_index_or gone s false) out

@@ -1,9 +1,8 @@
 -- A state that sinks joins those that have gone.
 use Rattle.std.proofs.Common.{◌≡◌, ◌≢◌, ℕ, ◌+◌, ◌<◌, Bool, true, false, List, [], ◌∷◌, ◌++◌, length, get_or, set, arith, sym}
-use Rattle.std.proofs.Common.{ap, ◌∙◌, subst, inl, inr, Option, Some, None}
+use Rattle.std.proofs.Common.{ap, ◌∙◌, subst, Option, Some, None}
 use Rattle.std.specs.Prelude.{slice_index_or, Contains}
-use Rattle.std.proofs.lemmas.Bool.{cases_lt}
-use Rattle.std.proofs.lemmas.List.{length_push, get_or_past, get_or-set_same}
+use Rattle.std.proofs.lemmas.List.{length_push, get_or-set_same}
 use Rattle.std.proofs.lemmas.List.Elements.{Contains-get_or, All-same, All-push, All-weaker}
 use Rattle.game_model.specs.declared.game.Side.TheVariants.{Max, Min}
 use Rattle.game_model.specs.Game.{choices_of, choice_of}
@@ -15,6 +14,7 @@ use Rattle.attractors.specs.Attractor.{dead_excluded, serves}
 use Rattle.attractors.specs.Search.{LeadsIn}
 use Rattle.attractors.proofs.Following.{serves-more, sides-differ}
 use Rattle.attractors.proofs.Meeting.{meets-at}
+use Rattle.attractors.proofs.Least.{member-inside}
 use Rattle.attractors.proofs.Ordering.{stays-member}
 use Rattle.attractors.proofs.Serving.{serves-both}
 use Rattle.away_ranks.specs.declared.search.AwaySearch.{AwaySearch}
@@ -28,12 +28,7 @@ pub leads-back : (q : Query) (lists : List (List Move)) (gone : List Bool) (memb
     → ArePredecessors q.game lists → length gone ≡ states q → HasGone gone member
     → list ≡ slice_index_or lists member [] → k < length list → LeadsIn q.game gone (get_or list k d)
 leads-back q lists gone member k list d are many out is_list l =
-    let inside : member < states q = elim (cases_lt member (length gone)) [
-      | inl below ↦ omega (arith, below, many)
-      | inr past ↦
-          let none : slice_index_or gone member false ≡ false = get_or_past gone member false past in
-          absurd (cc)
-    ] in
+    let inside : member < states q = omega (arith, member-inside gone member out, many) in
     let m : Move = get_or list k d in
     record {
       to = member;
@@ -112,10 +107,7 @@ module _ (q : Query) (posed : IsQuery q) (s : ℕ) (old mid : AwaySearch) (h : I
   todo-new : new.todo.items ≡ old.todo.items ++ s ∷ []
   todo-new = joined.todo ∙ ap (λ list. list ++ s ∷ []) ready.todo
 
-  -- more states have gone
-  pub joined-larger : (t : ℕ) → HasGone old.gone.items t → HasGone new.gone.items t
-  joined-larger = larger
-
+  -- the search goes on
   pub joined-search : is_goal q s ≡ false → IsAwaySearch q new
   joined-search apart = record {
     ranked = AreRanked-same q (set old.gone.items s true) new.gone.items mid.choices.items new.choices.items

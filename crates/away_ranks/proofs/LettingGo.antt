@@ -131,8 +131,8 @@ module _ (q : Query) (posed : IsQuery q) (left : List Bool) (upto : ℕ) (more :
     (h : IsAwaySearch q old) (drawn : IsAttractor (turned q) (gone_excluded old.gone.items) left)
     (chosen : AreUnserved q old.gone.items left old.choices.items)
     (gone : HasLetGo left (old.top + 1) upto more old new) (all : states q ≤ upto) where
-  waits-more : AreWaits q new.gone.items new.waits.items
-  waits-more = subst (AreWaits q new.gone.items) (sym gone.waits)
+  pub let-go-waits : AreWaits q new.gone.items new.waits.items
+  let-go-waits = subst (AreWaits q new.gone.items) (sym gone.waits)
       (AreWaits-more q old.gone.items new.gone.items old.waits.items gone.larger h.waits)
 
   -- those that went are ranked
@@ -149,14 +149,11 @@ module _ (q : Query) (posed : IsQuery q) (left : List Bool) (upto : ℕ) (more :
         only = gone.only;
       }) (gone.some is))
 
-  pub let-go-waits : AreWaits q new.gone.items new.waits.items
-  let-go-waits = waits-more
-
   -- if none went, the search is as it was
   pub let-go-none : more ≡ false → IsAwaySearch q new
   let-go-none is = record {
     ranked = AreRanked-same q old.gone.items new.gone.items old.choices.items new.choices.items old.ranks.items
         new.ranks.items old.top new.top (gone.none is).0 gone.choices (gone.none is).1 gone.top h.ranked;
-    waits = waits-more;
+    waits = let-go-waits;
     todo = gone.todo;
   }

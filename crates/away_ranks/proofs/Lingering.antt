@@ -3,8 +3,7 @@ use Rattle.std.proofs.Common.{◌≡◌, ℕ, suc, ◌+◌, ◌<◌, ◌≤◌, 
 use Rattle.std.proofs.Common.{◌∙◌, subst, inl, inr, Option}
 use Rattle.std.specs.Prelude.{slice_index, slice_index_or}
 use Rattle.std.specs.List.{All}
-use Rattle.std.proofs.lemmas.Bool.{cases_Bool, cases_lt}
-use Rattle.std.proofs.lemmas.List.{get_or_past}
+use Rattle.std.proofs.lemmas.Bool.{cases_Bool}
 use Rattle.game_model.specs.declared.game.Edge.{Edge}
 use Rattle.game_model.specs.Game.{Distribution, no_distribution, no_edge, choices_of, choice_of}
 use Rattle.game_model.specs.Dual.{other_side}
@@ -15,6 +14,7 @@ use Rattle.attractors.proofs.Tests.{any-none}
 use Rattle.attractors.proofs.Meeting.{meets-successor}
 use Rattle.attractors.proofs.Serving.{serves-not}
 use Rattle.attractors.proofs.Searching.{Grew-goals}
+use Rattle.attractors.proofs.Least.{member-inside}
 use Rattle.almost_sure.specs.ExcludedSets.{gone_excluded}
 use Rattle.almost_sure.specs.Values.{IsAway}
 use Rattle.almost_sure.proofs.Away.{IsAway-more, inner-away}
@@ -43,10 +43,7 @@ module _ (q : Query) (posed : IsQuery q) (gone more left : List Bool) (choices :
     (drawn : IsAttractor (turned q) (gone_excluded gone) left) (chosen : AreUnserved q gone left choices)
     (new : HaveGone q gone more left choices ranks higher (top + 1)) where
   inside-of : (s : ℕ) → HasGone more s → s < states q
-  inside-of s out = elim (cases_lt s (length more)) [
-    | inl below ↦ omega (arith, below, new.many)
-    | inr past ↦ let none : slice_index_or more s false ≡ false = get_or_past more s false past in absurd (cc)
-  ]
+  inside-of s out = omega (arith, member-inside more s out, new.many)
 
   low : (s : ℕ) → HasGone more s → slice_index higher s ≤ top + 1
   low s out = elim (cases_Bool (slice_index_or gone s false)) [

@@ -28,7 +28,7 @@ pub record HasJoined (s rank : ℕ) (old new : AwaySearch) : Type 0 where
   pub waits : new.waits.items ≡ old.waits.items
   pub top : new.top ≡ old.top
 
--- As many states are to be followed as have gone and were not followed yet.
+-- As many states have joined those that are still to be followed as have gone.
 abbrev pub IsBalanced : AwaySearch → AwaySearch → Type 0
 IsBalanced old new =
     length new.todo.items + how_many old.gone.items ≡ length old.todo.items + how_many new.gone.items
