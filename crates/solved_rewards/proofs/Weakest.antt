@@ -1,5 +1,5 @@
 -- The check accepts what the graph alone gives.
-use Rattle.std.proofs.Common.{◌≡◌, ℕ, ◌<◌, ◌≤◌, ◌⊎◌, Bool, true, false, List, [], length, arith, refl, sym, ◌∙◌, subst}
+use Rattle.std.proofs.Common.{◌≡◌, ℕ, ◌<◌, ◌≤◌, Bool, true, false, List, [], length, arith, refl, sym, ◌∙◌, subst}
 use Rattle.std.proofs.Common.{inl, inr, Option, None, min}
 use Rattle.std.specs.Prelude.{◌||◌, if◌then◌else◌, slice_index, slice_index_or, IsSomeAnd}
 use Rattle.std.proofs.lemmas.Bool.{both_ways, cases_lt}
@@ -19,7 +19,7 @@ use Rattle.reward_check.specs.Parts.{LooksAt, IsTaken, IsRight, IsPassedAt, IsAc
 use Rattle.solved_rewards.specs.declared.merge.MergedLists.{MergedLists}
 use Rattle.solved_rewards.specs.declared.sources.Sources.{Sources}
 use Rattle.solved_rewards.specs.Away.{HasAwayChoices}
-use Rattle.solved_rewards.specs.inside.Merged.{AreMerged, merged}
+use Rattle.solved_rewards.specs.inside.Merged.{ProvesAway, AreMerged, merged}
 
 -- Only goals have an upper value, each value that is a number is 0, and infinite states have these choices and ranks.
 record IsWeakest (c : Certificate) (choices : List (Option ℕ)) (ranks : List ℕ) : Type 0 where
@@ -60,7 +60,7 @@ module _ (c : Certificate) (choices : List (Option ℕ)) (ranks : List ℕ)
       let may : MayBeTaken c.question Max choices s k = (
         taken.0,
         λ own. sym (planned_place-given choices s (length (choices_of c.question.game s)) k
-        (sym (weak.planned s opened own out) ∙ taken.1 own) taken.0),
+            (sym (weak.planned s opened own out) ∙ taken.1 own) taken.0),
       ) in
       elim ((away s opened.0).each opened out k may) [
         | inl at ↦ inl (sinks s (choice_of c.question.game s k) out at)
@@ -131,11 +131,11 @@ same-rank n list away s many as_many each = elim (cases_lt s n) [
 ]
 
 -- what is merged without candidates
-pub merged-accepted : (sources : Sources) (lists : MergedLists) → AreMerged sources [] [] lists
+pub merged-accepted : (sources : Sources) (lists : MergedLists) → ProvesAway sources → AreMerged sources [] [] lists
     → IsAccepted (merged sources lists)
-merged-accepted sources lists are =
-    weakest-accepted (merged sources lists) sources.away_choices.now sources.away_ranks.now sources.away
-    sources.chosen (record {
+merged-accepted sources lists away are =
+    weakest-accepted (merged sources lists) sources.away_choices.now sources.away_ranks.now away.ranks
+    away.choices (record {
       bounded = λ s inside. are.bounded.each s inside ∙ or-none (is_goal sources.question.now s);
       lower = λ s inside.
           are.lower.each s inside

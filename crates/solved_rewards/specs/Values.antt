@@ -1,4 +1,4 @@
--- This module defines the values that a solver's candidates give, and the states that need a choice or a reply for them.
+-- This module defines the values that a solver's candidates give, and which states need a choice or a reply.
 use Rattle.std.specs.Prelude.{◌≡◌, ℕ, ◌<◌, ◌⊎◌, Bool, true, false, List, [], slice_index, min, if◌then◌else◌}
 use Rattle.game_model.specs.declared.game.Side.TheVariants.{Max, Min}
 use Rattle.game_model.specs.Limits.{unit}

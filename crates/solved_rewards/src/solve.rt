@@ -6,7 +6,7 @@ ghost use Rattle.predecessors.specs.Lists.{ArePredecessors};
 ghost use Rattle.reward_check.specs.Parts.{IsAccepted};
 ghost use Rattle.solved_rewards.specs.Away.{IsAwayPlan};
 ghost use Rattle.solved_rewards.specs.Solved.{certificate_of, HasStates, HasGiven, HasValuesOf, HasNoMore};
-ghost use Rattle.solved_rewards.specs.inside.Merged.{AreMerged, AreFilled, merged};
+ghost use Rattle.solved_rewards.specs.inside.Merged.{ProvesAway, AreMerged, AreFilled, merged};
 
 use crate::away::AwayPlan;
 use crate::bounded::bounded_states;
@@ -40,7 +40,7 @@ pub fn solve_rewards(
     requires alive { (s : ℕ) → s < states question.now → is_dead question.now s ≡ false }
     requires away { IsAwayPlan question.now away }
     ensures accepted { IfOk result (λ solved. IsAccepted (certificate_of question.now solved)) }
-    ensures given { IfOk result (HasGiven away candidates) }
+    ensures given { IfOk result (HasGiven away.entry candidates) }
     ensures lists { IfOk result (HasStates (states question.now)) }
     ensures values { IfOk result (HasValuesOf question.now candidates) }
     ensures plans { IfOk result (HasNoMore question.now) }
@@ -89,6 +89,7 @@ fn first_accepted(
     sources: &Sources<'_>,
     found: &[bool],
 ) -> Result<MergedLists, OutOfMemory>
+    requires { ProvesAway sources.now }
     ensures accepted { IfOk result (λ lists. IsAccepted (merged sources.now lists)) }
     ensures filled { IfOk result (AreFilled sources.now) }
 {
@@ -136,6 +137,7 @@ fn accepted(
 
 /// Merges sources without states that were found and without a candidate. The check accepts what the graph alone gives.
 fn weakest(alloc: Global, sources: &Sources<'_>) -> Result<MergedLists, OutOfMemory>
+    requires { ProvesAway sources.now }
     ensures accepted { IfOk result (λ lists. IsAccepted (merged sources.now lists)) }
     ensures merged { IfOk result (AreMerged sources.now [] []) }
 {

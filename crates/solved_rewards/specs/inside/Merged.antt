@@ -4,11 +4,18 @@ use Rattle.std.specs.Prelude.{Option, None, IsSome}
 use Rattle.game_model.specs.declared.game.Side.TheVariants.{Max}
 use Rattle.game_model.specs.Query.{Query, states, is_goal, side_at}
 use Rattle.game_model.specs.Tables.{IsTable}
-use Rattle.expected_rewards.specs.Tables.{is_finite}
+use Rattle.expected_rewards.specs.Tables.{is_finite, AreAwayRanks}
 use Rattle.reward_check.specs.Certificates.{Certificate, flat_rewards}
 use Rattle.solved_rewards.specs.declared.merge.MergedLists.{MergedLists}
 use Rattle.solved_rewards.specs.declared.sources.Sources.{Sources}
+use Rattle.solved_rewards.specs.Away.{HasAwayChoices}
 use Rattle.solved_rewards.specs.Values.{value_of, NeedsChoice, NeedsReply}
+
+-- The away choices and ranks prove that the states that are not marked are not finite.
+pub record ProvesAway (sources : Sources) : Type 0 where
+  pub choices : HasAwayChoices sources.question.now sources.finite.now sources.away_choices.now
+  pub ranks : AreAwayRanks sources.question.now sources.finite.now sources.away_choices.now
+      (slice_index sources.away_ranks.now)
 
 -- The goals and the states of the list are marked.
 pub record AreBounded (q : Query) (found list : List Bool) : Type 0 where
@@ -39,9 +46,9 @@ pub record AreRanks (q : Query) (finite : List Bool) (away list : List ℕ) : Ty
 
 -- The lists are merged from sources: the states that are found to have an upper value, and a candidate for the lower
 -- values.
-pub record AreMerged (sources : Sources) (found : List Bool) (lower : List ℕ) (lists : MergedLists) : Type 0 where
+pub record AreMerged (sources : Sources) (found : List Bool) (below : List ℕ) (lists : MergedLists) : Type 0 where
   pub bounded : AreBounded sources.question.now found lists.bounded.items
-  pub lower : IsTable sources.question.now (value_of sources.question.now sources.finite.now lower) lists.lower.items
+  pub lower : IsTable sources.question.now (value_of sources.question.now sources.finite.now below) lists.lower.items
   pub upper : IsTable sources.question.now
       (value_of sources.question.now lists.bounded.items sources.candidates.now.upper.items) lists.upper.items
   pub choices : AreChoices sources.question.now sources.finite.now sources.away_choices.now lists.lower.items
@@ -52,9 +59,9 @@ pub record AreMerged (sources : Sources) (found : List Bool) (lower : List ℕ) 
 -- The lists are merged from sources, with the candidate for the lower values or with none.
 pub record AreFilled (sources : Sources) (lists : MergedLists) : Type 0 where
   pub found : List Bool
-  pub lower : List ℕ
-  pub kept : (lower ≡ sources.candidates.now.lower.items) ⊎ (lower ≡ [])
-  pub merged : AreMerged sources found lower lists
+  pub below : List ℕ
+  pub kept : (below ≡ sources.candidates.now.lower.items) ⊎ (below ≡ [])
+  pub merged : AreMerged sources found below lists
 
 -- The lists and the sources say this certificate.
 abbrev pub merged : Sources → MergedLists → Certificate
