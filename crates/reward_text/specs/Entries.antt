@@ -1,7 +1,8 @@
 -- This module defines the entries of a certificate of rewards, one for each state.
-use Rattle.std.specs.Prelude.{◌≡◌, ℕ, Bool, false, List, length, map, slice_index, slice_index_or, Option}
+use Rattle.std.specs.Prelude.{◌≡◌, ◌≤◌, ℕ, Bool, false, List, length, map, slice_index, slice_index_or, All, Option}
 use Rattle.std.specs.Prelude.{Some, None, if◌then◌else◌}
 use Rattle.std.specs.List.{range_with_len}
+use Rattle.game_model.specs.Limits.{unit}
 use Rattle.plan_text.specs.Entries.{EntryOf, IsInRangeOf}
 use Rattle.reward_values.specs.Values.{IsValue}
 use Rattle.reward_text.specs.declared.plan.RewardPlan.{RewardPlan}
@@ -33,6 +34,11 @@ pub record HasRewardStates (plan : RewardPlan) (states : ℕ) : Type 0 where
   pub bounded : length plan.bounded.items ≡ states
   pub upper : length plan.upper.items ≡ states
   pub replies : length plan.replies.items ≡ states
+
+-- No entry of the lists of values is above the unit.
+pub record HasUnits (plan : RewardPlan) : Type 0 where
+  pub lower : All (λ v. v ≤ unit) plan.lower.items
+  pub upper : All (λ v. v ≤ unit) plan.upper.items
 
 -- The value of a state is a number where this is marked, and infinite elsewhere.
 abbrev pub value_at : List Bool → List ℕ → ℕ → Option ℕ

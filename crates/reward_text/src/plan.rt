@@ -30,7 +30,7 @@ pub struct RewardPlan {
 }
 
 impl RewardPlan {
-    ghost use Rattle.reward_text.specs.Entries.{HasRewardStates, IsRewardEntry, reward_entries_of};
+    ghost use Rattle.reward_text.specs.Entries.{HasRewardStates, HasUnits, IsRewardEntry, reward_entries_of};
 
     /// Makes a certificate of no state, with room for this many.
     pub(crate) fn with_room(
@@ -40,6 +40,7 @@ impl RewardPlan {
     ) -> Result<RewardPlan, AllocError>
         ensures lists { IfOk result (λ plan. HasRewardStates plan 0) }
         ensures places { IfOk result (λ plan. plan.places ≡ places) }
+        ensures units { IfOk result HasUnits }
     {
         let room = states as usize;
         Ok(RewardPlan {
@@ -57,9 +58,11 @@ impl RewardPlan {
     /// Adds what a line says of the next state.
     pub(crate) fn push(&mut self, entry: RewardLine) -> Result<(), AllocError>
         requires lists { HasRewardStates self.old (length self.old.lower.items) }
+        requires units { HasUnits self.old }
         requires range { IsRewardEntry entry }
         ensures lists { OnOk result (HasRewardStates self.new (length self.old.lower.items + 1)) }
         ensures places { OnOk result (self.new.places ≡ self.old.places) }
+        ensures units { OnOk result (HasUnits self.new) }
         ensures entries { OnOk result (reward_entries_of self.new ≡ reward_entries_of self.old ++ entry ∷ []) }
     {
         self.finite.push(is_number(entry.lower))?;

@@ -6,7 +6,7 @@ ghost use Rattle.text_lines.specs.Text.{lines_of, significant};
 ghost use Rattle.plan_text.specs.Fixed.{unit_digits};
 ghost use Rattle.plan_text.specs.Said.{IsOutOfMemory, entries_from_by};
 ghost use Rattle.game_outside.specs.Answers.{AnswersOrWants};
-ghost use Rattle.reward_text.specs.Entries.{HasRewardStates, IsRewardEntry, certificate_of, reward_entries_of};
+ghost use Rattle.reward_text.specs.Entries.{HasRewardStates, HasUnits, IsRewardEntry, certificate_of, reward_entries_of};
 ghost use Rattle.reward_text.specs.Said.{rewards_said, reward_line_said, with_places};
 ghost use Rattle.reward_text.specs.inside.Read.{first_reward};
 
@@ -25,6 +25,7 @@ pub fn read_reward_plan(alloc: Global, bytes: &[u8], states: u32) -> Result<Rewa
     ensures lists { IfOk result (λ plan. HasRewardStates plan states) }
     ensures said { AnswersOrWants IsOutOfMemory certificate_of result (rewards_said bytes.now states) }
     ensures places { IfOk result (λ plan. plan.places ≤ unit_digits) }
+    ensures units { IfOk result HasUnits }
     ensures in_range { IfOk result (λ plan. All IsRewardEntry (reward_entries_of plan)) }
 {
     let (places, text, number) = read_heading(bytes, states)?;
@@ -45,6 +46,7 @@ fn read_states(
     ensures said { AnswersOrWants IsOutOfMemory certificate_of result (with_places places
         (entries_from_by (reward_line_said places) states [] first (significant (lines_of text.now)))) }
     ensures places { IfOk result (λ plan. plan.places ≡ places) }
+    ensures units { IfOk result HasUnits }
 {
     let Ok(mut plan) = RewardPlan::with_room(alloc, places, states) else {
         return Err(PlanFault::out_of_memory());

@@ -33,6 +33,7 @@ loop-state-preserved c =
     record {
       lists = search rules;
       places = search (rules, at.places);
+      units = search (rules, at.units);
       said = ap (λ entries. entries_from_by (reward_line_said c.args.places) c.args.states entries
           (c.loop-state.number + 1) rest) c.in-Ok-push.ensures.entries ∙ sym more ∙ at.said;
       number = omega (arith, at.number, c.in_ok-entry.ensures.shorter);
