@@ -16,7 +16,7 @@ test_le a b h = grind (arith, nat_tests)
 pub test_lt : (a b : ℕ) → a < b → nat_lt a b ≡ true
 test_lt a b h = grind (arith, nat_tests)
 
-le_test : (a b : ℕ) → nat_lt a b ≡ false → b ≤ a
+pub le_test : (a b : ℕ) → nat_lt a b ≡ false → b ≤ a
 le_test a b e = grind (arith, nat_tests)
 
 -- a text within the limit says its bytes
