@@ -198,7 +198,7 @@ said_asks sources asked question is =
     let read : formula_read asked.formula ≡ Denoted (OfReward posed.0) =
     of_formula.1 ∙ ap (λ f. Denoted f) posed.1 in
     let model = model_is sources.plain asked m (was_shared (model_said sources.plain asked) m of_model.1) in
-    subst (λ (q : RewardQuestion). AsksRewards sources asked q) posed.4
+    subst (λ (q : RewardQuestion). AsksRewards sources asked q) {x = question_with_rewards lines posed.0 posed.2} posed.4
     (asks_parts sources asked m lines posed.0 posed.2 model of_lines.1 read posed.3)
 
 -- and the question that is asked is said

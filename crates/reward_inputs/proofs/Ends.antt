@@ -27,12 +27,12 @@ fault_shared plain.OutOfMemory is = cc (is)
 fault_shared plain.ReadFault is = refl
 fault_shared (plain.Refused shared) is = cc (is)
 
-pub caused_shared : {X Y : Type 0} (end : End) → EndsCaused {X = X} (Err end)
+pub caused_shared : {X : Type 0} (Y : Type 0) (end : End) → EndsCaused {X = X} (Err end)
     → ((refusal : Refusal) → ◌≡◌ {A = Result X End} (Err end) (Err (plain.Refused refusal)) → IsShared refusal)
     → RewardEndsCaused {X = Y} (Err (reward_end end))
-caused_shared plain.OutOfMemory caused shared = tt
-caused_shared plain.ReadFault caused shared = tt
-caused_shared (plain.Refused refusal) caused shared = (shared refusal refl, caused)
+caused_shared Y plain.OutOfMemory caused shared = tt
+caused_shared Y plain.ReadFault caused shared = tt
+caused_shared Y (plain.Refused refusal) caused shared = (shared refusal refl, caused)
 
 -- a formula that poses no question
 pub question_ends : {X Y : Type 0} (view : X → Y) (fault : PoseFault) (said : RewardSaid Y)

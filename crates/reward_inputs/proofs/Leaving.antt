@@ -25,50 +25,50 @@ pub other_end : {X Y : Type 0} (end other : RewardEnd) → ◌≡◌ {A = Result
     → ◌≡◌ {A = Result Y RewardEnd} (Err end) (Err other)
 other_end end other is = let same : end ≡ other = cc (is) in ap (λ (e : RewardEnd). Err e) same
 
-pub other_long : {X Y : Type 0} (end : RewardEnd) → IsLong {X = X} (Err end) → IsLong {X = Y} (Err end)
-other_long OutOfMemory long = long
-other_long ReadFault long = long
-other_long (Refused refusal) long = long
+pub other_long : (X Y : Type 0) (end : RewardEnd) → IsLong {X = X} (Err end) → IsLong {X = Y} (Err end)
+other_long X Y OutOfMemory long = long
+other_long X Y ReadFault long = long
+other_long X Y (Refused refusal) long = long
 
 -- a refusal that a text is too long, with rewards and without
-long_refusal : {X : Type 0} (refusal : Refusal) → IsLong {X = X} (Err (reward_end (plain.Refused refusal)))
+long_refusal : (X : Type 0) (refusal : Refusal) → IsLong {X = X} (Err (reward_end (plain.Refused refusal)))
     → IsTooLong {X = X} (Err (plain.Refused refusal))
-long_refusal (TooLong text) long = (text, refl)
-long_refusal refusal long = absurd long
+long_refusal X (TooLong text) long = (text, refl)
+long_refusal X refusal long = absurd long
 
-long_shared : {X Y : Type 0} (end : End) → IsLong {X = Y} (Err (reward_end end)) → IsTooLong {X = X} (Err end)
-long_shared plain.OutOfMemory long = absurd long
-long_shared plain.ReadFault long = absurd long
-long_shared (plain.Refused refusal) long = long_refusal refusal long
+long_shared : (X Y : Type 0) (end : End) → IsLong {X = Y} (Err (reward_end end)) → IsTooLong {X = X} (Err end)
+long_shared X Y plain.OutOfMemory long = absurd long
+long_shared X Y plain.ReadFault long = absurd long
+long_shared X Y (plain.Refused refusal) long = long_refusal X refusal long
 
-shared_long : {X Y : Type 0} (end : End) → IsTooLong {X = X} (Err end) → IsLong {X = Y} (Err (reward_end end))
-shared_long {X} {Y} end long =
+shared_long : (X Y : Type 0) (end : End) → IsTooLong {X = X} (Err end) → IsLong {X = Y} (Err (reward_end end))
+shared_long X Y end long =
     let same : plain.Refused (TooLong long.0) ≡ end = cc (long.1) in
     subst (λ (e : End). IsLong {X = Y} (Err (reward_end e))) same tt
 
-shared_memory : {X Y : Type 0} (end : End) → IsErrOf {T = X} (Err end) plain.OutOfMemory
+shared_memory : (X Y : Type 0) (end : End) → IsErrOf {T = X} (Err end) plain.OutOfMemory
     → IsErrOf {T = Y} (Err (reward_end end)) OutOfMemory
-shared_memory end is =
+shared_memory X Y end is =
     let same : end ≡ plain.OutOfMemory = cc (is) in ap (λ (e : End). Err (reward_end e)) same
 
 shared_takes : {X Y : Type 0} (end : End) (taken : ℕ) → Takes {X = X} (Err end) taken
     → RewardTakes {X = Y} (Err (reward_end end)) taken
-shared_takes end taken takes = record {
+shared_takes {X} {Y} end taken takes = record {
   most = takes.most;
-  too_long = λ long. takes.too_long (long_shared end long);
+  too_long = λ long. takes.too_long (long_shared X Y end long);
   only_too_long = λ above. elim (takes.only_too_long above) [
-    | inl long ↦ inl (shared_long end long)
-    | inr memory ↦ inr (shared_memory end memory)
+    | inl long ↦ inl (shared_long X Y end long)
+    | inr memory ↦ inr (shared_memory X Y end memory)
   ];
 }
 
 end_takes : {X Y : Type 0} (end : RewardEnd) (taken : ℕ) → RewardTakes {X = X} (Err end) taken
     → RewardTakes {X = Y} (Err end) taken
-end_takes end taken takes = record {
+end_takes {X} {Y} end taken takes = record {
   most = takes.most;
-  too_long = λ long. takes.too_long (other_long end long);
+  too_long = λ long. takes.too_long (other_long Y X end long);
   only_too_long = λ above. elim (takes.only_too_long above) [
-    | inl long ↦ inl (other_long end long)
+    | inl long ↦ inl (other_long X Y end long)
     | inr memory ↦ inr (other_end end OutOfMemory memory)
   ];
 }

@@ -38,19 +38,21 @@ pub record RewardsSay (holding : Option Holding) (name : List ℕ) (game : List 
   pub told : IfKnown holding (λ held. source ≡ held name)
   pub says : rewards_said source game ≡ it
 
+-- the shelf was read before
+told_before : (now before : Option Holding) (name : List ℕ) (source : Option (List ℕ)) → now ≡ before
+    → IfKnown now (λ held. source ≡ held name) → IfKnown before (λ held. source ≡ held name)
+told_before now before name source kept told =
+    subst (λ (h : Option Holding). IfKnown h (λ held. source ≡ held name)) kept told
+
 module _ {now before : Option Holding} {steady : Bool} {name : List ℕ} {game : List (List Distribution)}
     (kept : now ≡ before) where
-  told_before : {source : Option (List ℕ)} → IfKnown now (λ held. source ≡ held name)
-      → IfKnown before (λ held. source ≡ held name)
-  told_before {source} told = subst (λ (h : Option Holding). IfKnown h (λ held. source ≡ held name)) kept told
-
   pub table_lines : {table : List (Option Fraction)} → LoadsRewards now steady name game (Ok table)
       → (lines : List RewardLine) × RewardsSay before name game (Denoted lines) × HasRewards game lines table
   table_lines loads = (
     loads.answers.lines,
     record {
       source = loads.source;
-      told = told_before (loads.told (λ fault. cc (fault)));
+      told = told_before now before name loads.source kept (loads.told (λ fault. cc (fault)));
       says = loads.answers.said;
     },
     loads.answers.has,
@@ -60,7 +62,7 @@ module _ {now before : Option Holding} {steady : Bool} {name : List ℕ} {game :
       → end ≡ Refused refusal → RewardsSay before name game (Refuses refusal)
   rewards_refused {end} {refusal} loads is = record {
     source = loads.source;
-    told = told_before (loads.told (λ fault. cc (is, fault)));
+    told = told_before now before name loads.source kept (loads.told (λ fault. cc (is, fault)));
     says = let P : RewardEnd → Type 0 = λ e. AnswersRewards game loads.source (Err e) in subst P is loads.answers;
   }
 
@@ -68,7 +70,7 @@ module _ {now before : Option Holding} {steady : Bool} {name : List ℕ} {game :
       → steady ≡ true → RewardsSay before name game NotHeld
   rewards_missed loads is calm = record {
     source = loads.source;
-    told = told_before (loads.steadily calm);
+    told = told_before now before name loads.source kept (loads.steadily calm);
     says = let P : RewardEnd → Type 0 = λ e. AnswersRewards game loads.source (Err e) in subst P is loads.answers;
   }
 

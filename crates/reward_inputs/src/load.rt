@@ -81,9 +81,7 @@ pub fn load_rewards<H: Shelf>(
         Err(FileEnd::OutOfMemory) => Err(RewardEnd::OutOfMemory),
         Err(FileEnd::ReadFault) => Err(RewardEnd::ReadFault),
         Err(FileEnd::TooLong) => Err(RewardEnd::Refused(RewardRefusal::RewardsTooLong)),
-        Err(FileEnd::Refused(fault)) => {
-            Err(RewardEnd::Refused(RewardRefusal::OfRewards(fault)))
-        }
+        Err(FileEnd::Refused(fault)) => { Err(RewardEnd::Refused(RewardRefusal::OfRewards(fault))) }
     }
 }
 

@@ -55,7 +55,7 @@ pub returns-in_err-owners-clause-shared : goal.returns-in_err-owners-clause-shar
 returns-in_err-owners-clause-shared g c =
     let p = err_from_is_err_and c.from_residual-in_err-owners.result c.from_residual-in_err-owners.ensures.1 in
     rw (p.1, p.2) (λ refusal is.
-    let own = text_refused c.in_err-owners.ensures.says (cc (is)) in
+    let own = text_refused {refusal = refusal} c.in_err-owners.ensures.says (cc (is)) in
     owners_shared _ own.source _ refusal own.says)
 
 pub returns-in_err-owners-clause-steadily : goal.returns-in_err-owners-clause-steadily

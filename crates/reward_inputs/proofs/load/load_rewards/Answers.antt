@@ -18,5 +18,5 @@ returns-in-Err-TooLong-clause-says g c =
 pub returns-in-Err-Refused-clause-says : goal.returns-in-Err-Refused-clause-says
 returns-in-Err-Refused-clause-says g c =
     file_refused (g.H.Shelf.held c.args.shelf.now) (g.H.Shelf.steady c.args.shelf.now) c.args.name.now c.args.game.now
-    _ c.in-Err-Refused.fault (cc (c.in-Err-Refused.field-0-is, c.in-Err-Refused.fault-is))
+    _ c.in-Err-Refused.fault c.in-Err-Refused.field-0-is
     c.in-Err-Refused.ensures.reads

@@ -2,7 +2,9 @@ use Rattle.std.proofs.Common.{◌∙◌, subst}
 use Rattle.std.proofs.lemmas.Result.{err_from_is_err_and}
 use Rattle.command_words.specs.Words.{asked_of_words}
 use Rattle.reward_formula.specs.Formula.{any_of}
+use Rattle.reward_formula.specs.declared.formula.AnyFormula.{AnyFormula}
 use Rattle.reward_refusals.specs.declared.refusal.RewardRefusal.{RewardRefusal}
+use Rattle.reward_inputs.specs.declared.loaded.LoadedRewards.{LoadedRewards}
 use Rattle.reward_inputs.specs.Questions.{ReadsRewardsAs}
 use Rattle.reward_inputs.specs.Said.{Refuses}
 use Rattle.reward_inputs.proofs.Ends.{refused_shared, fault_shared, caused_shared}
@@ -39,7 +41,7 @@ returns-in_err-model-clause-shelf g c =
 pub returns-in_err-model-clause-caused : goal.returns-in_err-model-clause-caused
 returns-in_err-model-clause-caused g c =
     let p = err_from_is_err_and c.from_residual.result c.from_residual.ensures.1 in
-    rw (p.1, p.2) (caused_shared _ c.in_err-model.ensures.caused c.in_err-model.ensures.shared)
+    rw (p.1, p.2) (caused_shared LoadedRewards _ c.in_err-model.ensures.caused c.in_err-model.ensures.shared)
 
 pub returns-in_err-rewards-clause-refused : goal.returns-in_err-rewards-clause-refused
 returns-in_err-rewards-clause-refused g c =
@@ -76,7 +78,7 @@ returns-in_err-formula-clause-shelf g c =
     rw (p.1, p.2) (both_leave c.in_ok-model.ensures.shelf
     (answer_leaves _ c.in_ok-rewards.rewards
     (λ fails. c.in_err-formula.ensures.nothing.read (other_end _ _ fails))
-    (λ long. c.in_err-formula.ensures.nothing.short (other_long _ long)) c.in_ok-rewards.ensures.shelf))
+    (λ long. c.in_err-formula.ensures.nothing.short (other_long LoadedRewards AnyFormula _ long)) c.in_ok-rewards.ensures.shelf))
 
 pub returns-clause-reads : goal.returns-clause-reads
 returns-clause-reads g c =

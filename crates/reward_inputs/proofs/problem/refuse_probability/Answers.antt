@@ -6,12 +6,12 @@ use Rattle.reward_inputs.proofs.problem.refuse_probability.Goals as goal
 
 pub returns-in-Ok-clause-says : goal.returns-in-Ok-clause-says
 returns-in-Ok-clause-says c = λ lines.
-    wrong_kind (model_in c.args.loaded.now) (tree_of c.args.formula.now) c.requires _ c.in-Ok.ensures.said
+    wrong_kind (model_in c.args.loaded.now) (tree_of c.args.formula.now) c.requires.form _ c.in-Ok.ensures.said
 
-pub returns-in-Err-clause-says : goal.returns-in-Err-clause-says
-returns-in-Err-clause-says c = λ lines.
-    rw (c.from.ensures) (plain_fails (model_in c.args.loaded.now) (tree_of c.args.formula.now) c.requires
+pub returns-clause-says : goal.returns-clause-says
+returns-clause-says c = λ lines.
+    rw (c.from.ensures) (plain_fails (model_in c.args.loaded.now) (tree_of c.args.formula.now) c.requires.form
     (question_of lines) c.in-Err.fault c.in-Err.ensures.said)
 
-pub returns-in-Err-clause-nothing : goal.returns-in-Err-clause-nothing
-returns-in-Err-clause-nothing c = rw (c.from.ensures) (question_quiet c.in-Err.fault)
+pub returns-clause-nothing : goal.returns-clause-nothing
+returns-clause-nothing c = rw (c.from.ensures) (question_quiet c.in-Err.fault)
