@@ -9,11 +9,9 @@ use Rattle.game_model.specs.Game.{Distribution}
 use Rattle.transition_lines.specs.Text.{DenotesGame, game_of}
 use Rattle.transition_lines.proofs.TextLaws.{text_found, text_again}
 use Rattle.label_lines.specs.Denotes.{DenotesLabels}
-use Rattle.label_lines.specs.Labels.{Labelling}
 use Rattle.label_lines.specs.Owners.{Ownership}
 use Rattle.label_lines.specs.Texts.{labels_of}
 use Rattle.label_lines.proofs.LabelLaws.{labels_of-found, labels_of-again}
-use Rattle.rewards_reader.specs.declared.fault.RewardsFault.{RewardsFault}
 use Rattle.rewards_reader.specs.declared.line.RewardLine.{RewardLine}
 use Rattle.rewards_reader.specs.Denotes.{DenotesLines}
 use Rattle.rewards_reader.specs.Texts.{lines_said}
@@ -39,14 +37,14 @@ use Rattle.inputs.proofs.Lengths.{le_test}
 use Rattle.reward_refusals.specs.declared.refusal.RewardRefusal.{RewardRefusal}
 use Rattle.reward_refusals.specs.declared.refusal.RewardRefusal.TheVariants.{Shared, OfRewards, RewardsTooLong}
 use Rattle.reward_inputs.specs.Asks.{AsksRewards}
-use Rattle.reward_inputs.specs.Posed.{RewardReading, RewardQuestion, behind_model, behind_rewards, rewards_read}
-use Rattle.reward_inputs.specs.Posed.{reading_with_rewards, question_with_rewards, plain_reading, plain_refused}
+use Rattle.reward_inputs.specs.Posed.{RewardQuestion, behind_model, behind_rewards, rewards_read}
+use Rattle.reward_inputs.specs.Posed.{reading_with_rewards, question_with_rewards, plain_reading}
 use Rattle.reward_inputs.specs.Posed.{reach_posed, posed_with, rewards_posed, reward_question_said}
 use Rattle.reward_inputs.specs.Reach.{reach_tree}
 use Rattle.reward_inputs.specs.Said.{RewardSaid, NotHeld, Refuses, Denoted, and_then, read_said, shared_said}
 use Rattle.reward_inputs.specs.Sources.{RewardSources}
 use Rattle.reward_inputs.specs.Texts.{behind_game, behind_labels, model_said, rewards_bytes, rewards_said, formula_read}
-use Rattle.reward_inputs.proofs.RewardFiles.{short_says, text_says}
+use Rattle.reward_inputs.proofs.RewardFiles.{text_says}
 
 -- 1. What is said behind something.
 
@@ -198,7 +196,8 @@ said_asks sources asked question is =
     let read : formula_read asked.formula ≡ Denoted (OfReward posed.0) =
     of_formula.1 ∙ ap (λ f. Denoted f) posed.1 in
     let model = model_is sources.plain asked m (was_shared (model_said sources.plain asked) m of_model.1) in
-    subst (λ (q : RewardQuestion). AsksRewards sources asked q) {x = question_with_rewards lines posed.0 posed.2} posed.4
+    let parts = question_with_rewards lines posed.0 posed.2 in
+    subst (λ (q : RewardQuestion). AsksRewards sources asked q) {x = parts} posed.4
     (asks_parts sources asked m lines posed.0 posed.2 model of_lines.1 read posed.3)
 
 -- and the question that is asked is said

@@ -1,6 +1,5 @@
 -- How loading with rewards ends where loading without them does.
-use Rattle.std.proofs.Common.{◌≡◌, ◌⊎◌, inl, inr, Result, Ok, Err, refl, ap}
-use Rattle.std.specs.Prelude.{◌≢◌}
+use Rattle.std.proofs.Common.{◌≡◌, ◌⊎◌, inl, inr, Result, Err, refl}
 use Rattle.formula_sets.specs.declared.fault.PoseFault.{PoseFault}
 use Rattle.formula_sets.specs.declared.fault.PoseFault.TheVariants as pose
 use Rattle.output.specs.declared.refusal.Refusal.{Refusal}
@@ -11,8 +10,7 @@ use Rattle.inputs.specs.Loading.{EndsCaused, end_of_question}
 use Rattle.reward_refusals.specs.declared.refusal.RewardRefusal.{RewardRefusal}
 use Rattle.reward_refusals.specs.declared.refusal.RewardRefusal.TheVariants.{Shared}
 use Rattle.reward_refusals.specs.Caused.{IsShared}
-use Rattle.reward_inputs.specs.declared.end.RewardEnd.{RewardEnd}
-use Rattle.reward_inputs.specs.declared.end.RewardEnd.TheVariants.{OutOfMemory, ReadFault, Refused}
+use Rattle.reward_inputs.specs.declared.end.RewardEnd.TheVariants.{ReadFault, Refused}
 use Rattle.reward_inputs.specs.Loading.{reward_end, LoadsAs, RewardEndsCaused, AsksNothing}
 use Rattle.reward_inputs.specs.Said.{RewardSaid, Refuses}
 

@@ -1,5 +1,5 @@
 -- What loading with rewards does to a shelf, from what its parts do.
-use Rattle.std.proofs.Common.{◌≡◌, ◌∙◌, ◌<◌, ◌≤◌, ◌⊎◌, inl, inr, ℕ, Bool, Option, Result, Ok, Err, refl, ap, subst}
+use Rattle.std.proofs.Common.{◌≡◌, ◌∙◌, ◌≤◌, inl, inr, ℕ, Bool, Option, Result, Ok, Err, refl, ap, subst}
 use Rattle.std.proofs.Common.{arith}
 use Rattle.std.specs.Prelude.{IsErrOf}
 use Rattle.text_lines.specs.Limits.{most_bytes}
@@ -9,10 +9,9 @@ use Rattle.output.specs.declared.refusal.Refusal.TheVariants.{TooLong}
 use Rattle.inputs.specs.declared.load.End.{End}
 use Rattle.inputs.specs.declared.load.End.TheVariants as plain
 use Rattle.inputs.specs.Loading.{IsTooLong, LoadingLeaves, Takes}
-use Rattle.reward_refusals.specs.declared.refusal.RewardRefusal.{RewardRefusal}
 use Rattle.reward_inputs.specs.declared.end.RewardEnd.{RewardEnd}
 use Rattle.reward_inputs.specs.declared.end.RewardEnd.TheVariants.{OutOfMemory, ReadFault, Refused}
-use Rattle.reward_inputs.specs.Loading.{reward_end, IsLong, IsLongRefusal, RewardTakes, RewardLoadingLeaves}
+use Rattle.reward_inputs.specs.Loading.{reward_end, IsLong, RewardTakes, RewardLoadingLeaves}
 use Rattle.reward_inputs.proofs.Ends.{fault_shared}
 
 -- 1. Ends.

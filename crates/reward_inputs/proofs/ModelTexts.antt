@@ -1,6 +1,6 @@
 -- What the first texts of a command say together, from what each says.
 use Rattle.std.proofs.Common.{◌≡◌, ◌∙◌, ℕ, Bool, true, false, cond, List, length, Option, Some, None, Result, Ok, Err}
-use Rattle.std.proofs.Common.{refl, ap, subst}
+use Rattle.std.proofs.Common.{ap, subst}
 use Rattle.std.specs.Prelude.{nat_lt}
 use Rattle.text_lines.specs.Limits.{most_bytes}
 use Rattle.game_outside.specs.Outside.{Holding}
@@ -8,7 +8,6 @@ use Rattle.game_model.specs.Game.{Distribution}
 use Rattle.label_lines.specs.Labels.{Labelling}
 use Rattle.label_lines.specs.Owners.{Ownership}
 use Rattle.label_lines.specs.Texts.{owners_of}
-use Rattle.formula_sets.specs.Posing.{Model}
 use Rattle.command_words.specs.Words.{Asked}
 use Rattle.output.specs.declared.refusal.Text.{Text}
 use Rattle.output.specs.declared.refusal.Text.TheVariants.{Own}

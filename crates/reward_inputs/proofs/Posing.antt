@@ -18,7 +18,7 @@ use Rattle.formula_sets.proofs.Asking.{pose-found}
 use Rattle.output.specs.declared.refusal.Refusal.TheVariants.{OfQuestion, WrongKind}
 use Rattle.inputs.specs.Said.{Said, Refuses, Denoted, and_then, read_said}
 use Rattle.inputs.specs.Posed.{any_posed, posed_by, nested_posed}
-use Rattle.inputs.specs.Problems.{Problem, OfReach, OfWithin, OfNext, OfNested}
+use Rattle.inputs.specs.Problems.{Problem, OfReach, OfWithin, OfNext}
 use Rattle.inputs.specs.Loading.{end_of_question}
 use Rattle.reward_formula.specs.Formula.{RewardTree}
 use Rattle.rewards_reader.specs.declared.line.RewardLine.{RewardLine}

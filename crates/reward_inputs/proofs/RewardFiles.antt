@@ -1,23 +1,21 @@
 -- What loading answers of a file of rewards.
 use Rattle.std.proofs.Common.{◌≡◌, ◌∙◌, ◌<◌, ◌≤◌, ℕ, Bool, cond, List, length, Option, Some, None, Result, Ok, Err}
-use Rattle.std.proofs.Common.{refl, sym, ap, subst}
+use Rattle.std.proofs.Common.{sym, ap, subst}
 use Rattle.text_lines.specs.Limits.{most_bytes}
 use Rattle.fractions.specs.Fraction.{Fraction}
 use Rattle.game_model.specs.Game.{Distribution}
 use Rattle.game_outside.specs.declared.file.FileEnd.{FileEnd}
 use Rattle.game_outside.specs.declared.file.FileEnd.TheVariants as file
 use Rattle.game_outside.specs.Outside.{Holding, IsHeldLonger}
-use Rattle.game_outside.specs.Files.{HeldTextWith, ReadsFile}
+use Rattle.game_outside.specs.Files.{ReadsFile}
 use Rattle.rewards_reader.specs.declared.fault.RewardsFault.{RewardsFault}
 use Rattle.rewards_reader.specs.declared.line.RewardLine.{RewardLine}
-use Rattle.rewards_reader.specs.Rewards.{GivesRewards, IsSaid}
+use Rattle.rewards_reader.specs.Rewards.{IsSaid}
 use Rattle.rewards_reader.specs.Texts.{lines_said}
-use Rattle.inputs.specs.Sources.{IfKnown}
 use Rattle.inputs.proofs.FilesLoaded.{as_held}
 use Rattle.inputs.proofs.Lengths.{test_le, test_lt, longer}
 use Rattle.inputs.proofs.ModelTexts.{as_told}
 use Rattle.reward_refusals.specs.declared.refusal.RewardRefusal.TheVariants.{OfRewards, RewardsTooLong}
-use Rattle.reward_inputs.specs.declared.end.RewardEnd.{RewardEnd}
 use Rattle.reward_inputs.specs.declared.end.RewardEnd.TheVariants.{OutOfMemory, Refused}
 use Rattle.reward_inputs.specs.Loading.{LoadsRewards}
 use Rattle.reward_inputs.specs.Said.{Refuses, Denoted, and_then, read_said}

@@ -1,6 +1,6 @@
 -- What the texts of a command with rewards say together, from what the first texts, the file of rewards and the formula
 -- say.
-use Rattle.std.proofs.Common.{◌≡◌, ◌∙◌, ℕ, Bool, true, List, Option, Some, None, Result, Ok, Err, refl, ap, subst}
+use Rattle.std.proofs.Common.{◌≡◌, ◌∙◌, ℕ, Bool, true, List, Option, Some, None, Ok, Err, ap, subst}
 use Rattle.fractions.specs.Fraction.{Fraction}
 use Rattle.game_model.specs.Game.{Distribution}
 use Rattle.game_outside.specs.Outside.{Holding}
@@ -17,9 +17,9 @@ use Rattle.inputs.proofs.ModelTexts.{as_told}
 use Rattle.reward_refusals.specs.declared.refusal.RewardRefusal.{RewardRefusal}
 use Rattle.reward_refusals.specs.declared.refusal.RewardRefusal.TheVariants.{Shared}
 use Rattle.reward_inputs.specs.declared.end.RewardEnd.{RewardEnd}
-use Rattle.reward_inputs.specs.declared.end.RewardEnd.TheVariants.{OutOfMemory, ReadFault, Refused}
+use Rattle.reward_inputs.specs.declared.end.RewardEnd.TheVariants.{ReadFault, Refused}
 use Rattle.reward_inputs.specs.declared.loaded.LoadedRewards.{LoadedRewards}
-use Rattle.reward_inputs.specs.Loading.{AnswersRewards, LoadsAs, LoadsRewards, GivesTable}
+use Rattle.reward_inputs.specs.Loading.{AnswersRewards, LoadsAs, LoadsRewards}
 use Rattle.reward_inputs.specs.Posed.{RewardReading, reading_with_rewards, behind_model, behind_rewards, rewards_read}
 use Rattle.reward_inputs.specs.Posed.{rewards_posed}
 use Rattle.reward_inputs.specs.Questions.{SaysModel, ReadsRewardsAs, ReadsRewards, LacksRewards}

@@ -1,5 +1,5 @@
 -- This module says which question of rewards texts and words ask, as a relation.
-use Rattle.std.specs.Prelude.{ℕ, List, length}
+use Rattle.std.specs.Prelude.{List, length}
 use Rattle.game_model.specs.Game.{Distribution}
 use Rattle.transition_lines.specs.Text.{DenotesGame}
 use Rattle.label_lines.specs.Denotes.{DenotesLabels}

@@ -1,5 +1,5 @@
 -- This module defines the question of rewards that the words and the texts of a command pose, or their first refusal.
-use Rattle.std.specs.Prelude.{ℕ, List}
+use Rattle.std.specs.Prelude.{List}
 use Rattle.rewards_reader.specs.declared.line.RewardLine.{RewardLine}
 use Rattle.reward_formula.specs.Formula.{RewardTree, AnyTree, OfProbability, OfReward}
 use Rattle.formula_reader.specs.Formula.{Tree}

@@ -55,9 +55,9 @@ pub record ReadsRewardsAs (holding : Option Holding) (asked : Asked) (name : Lis
   pub told : AreRewardSources holding asked name sources
   pub says : rewards_read sources asked ≡ said
 
--- The texts and words say what was loaded, and its table has the rewards of their lines. Its formula is the one that the
--- words spell. The question that it poses is the one that is asked, and if it poses none, its refusal is that of the
--- question.
+-- The texts and words say what was loaded, and its table has the rewards of their lines. Its formula is the one that
+-- the words spell. The question that it poses is the one that is asked, and if it poses none, its refusal is that of
+-- the question.
 pub record ReadsRewards (holding : Option Holding) (asked : Asked) (name : List ℕ) (loaded : LoadedRewards)
     : Type 0 where
   pub lines : List RewardLine

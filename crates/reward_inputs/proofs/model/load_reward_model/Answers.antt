@@ -78,7 +78,8 @@ returns-in_err-formula-clause-shelf g c =
     rw (p.1, p.2) (both_leave c.in_ok-model.ensures.shelf
     (answer_leaves _ c.in_ok-rewards.rewards
     (λ fails. c.in_err-formula.ensures.nothing.read (other_end _ _ fails))
-    (λ long. c.in_err-formula.ensures.nothing.short (other_long LoadedRewards AnyFormula _ long)) c.in_ok-rewards.ensures.shelf))
+    (λ long. c.in_err-formula.ensures.nothing.short (other_long LoadedRewards AnyFormula _ long))
+    c.in_ok-rewards.ensures.shelf))
 
 pub returns-clause-reads : goal.returns-clause-reads
 returns-clause-reads g c =

@@ -28,11 +28,13 @@ returns-clause-says c = λ lines.
 pub returns-clause-game : goal.returns-clause-game
 returns-clause-game c =
     let m = model_in c.args.loaded.now in
-    same_game m.game m.labels m.owners (reward_tree_of c.args.formula.now) (posing_of c.in_ok-posed.posed) c.requires.flat
+    same_game m.game m.labels m.owners (reward_tree_of c.args.formula.now) (posing_of c.in_ok-posed.posed)
+    c.requires.flat
     (ap (λ t. pose_said m.game m.labels m.owners t) (sym c.in_ok-reach.ensures) ∙ c.in_ok-posed.ensures.exact)
 
 pub returns-clause-alive : goal.returns-clause-alive
 returns-clause-alive c =
     let m = model_in c.args.loaded.now in
-    never_dead m.game m.labels m.owners (reward_tree_of c.args.formula.now) (posing_of c.in_ok-posed.posed) c.requires.flat
+    never_dead m.game m.labels m.owners (reward_tree_of c.args.formula.now) (posing_of c.in_ok-posed.posed)
+    c.requires.flat
     (ap (λ t. pose_said m.game m.labels m.owners t) (sym c.in_ok-reach.ensures) ∙ c.in_ok-posed.ensures.exact)
