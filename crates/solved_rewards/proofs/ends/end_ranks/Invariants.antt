@@ -1,0 +1,6 @@
+use Rattle.std.proofs.Common.{◌≡◌, vec_len}
+use Rattle.game_model.specs.Query.{states}
+use Rattle.solved_rewards.proofs.ends.end_ranks.Given as goal
+
+abbrev pub invariant-loop-place : goal.invariant-loop-place
+invariant-loop-place l = vec_len l.search.ranks ≡ states l.question

@@ -1,0 +1,4 @@
+pub mod Away
+pub mod Solved
+pub mod Values
+pub mod inside
