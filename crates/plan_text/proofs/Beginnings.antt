@@ -8,8 +8,7 @@ use Rattle.plan_text.specs.declared.fault.PlanFault.{PlanFault}
 use Rattle.plan_text.specs.declared.fault.PlanCause.TheVariants.{NoCertificate}
 use Rattle.plan_text.specs.Said.{fault_at, begins_with, certificate_from_by}
 use Rattle.plan_text.specs.Parts.{first_with}
-use Rattle.plan_text.proofs.CertificatesReadBack.{keep_line-some}
-use Rattle.plan_text.proofs.BlankEnds.{kept}
+use Rattle.plan_text.proofs.BlankEnds.{keep_line-some, kept}
 
 -- the line does not begin with the word
 abbrev pub IsOther : List ℕ → List ℕ → Type 0

@@ -13,6 +13,12 @@ use Rattle.plan_text.specs.Parts.{end_said}
 abbrev pub IsBlank : List ℕ → Type 0
 IsBlank line = fields_of line ≡ []
 
+-- a line that is not blank stays
+pub keep_line-some : (line : List ℕ) (lines : List (List ℕ)) → is_nil (fields_of line) ≡ false
+    → keep_line line lines ≡ line ∷ lines
+keep_line-some line [] some = rw some refl
+keep_line-some line (next ∷ lines) some = refl
+
 -- a line stays where what is said of its place has no fault
 pub kept : (X : Type 0) (say : List (List ℕ) → Result X PlanFault) (x : X) (fault : PlanFault) (line : List ℕ)
     (lines : List (List ℕ)) → say [] ≡ Err fault → say (keep_line line lines) ≡ Ok x → say (line ∷ lines) ≡ Ok x

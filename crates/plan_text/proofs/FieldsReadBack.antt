@@ -18,28 +18,28 @@ use Rattle.plan_text.specs.Said.{units_of, choice_in}
 
 -- 1. Values.
 
-length-last_digits : (k n : ℕ) → length (last_digits k n) ≡ k
+pub length-last_digits : (k n : ℕ) → length (last_digits k n) ≡ k
 unfolding last_digits
 length-last_digits zero n = refl
 length-last_digits (suc k) n =
     omega (arith, length-append (last_digits k (n / 10)) ((48 + n % 10) ∷ []), length-last_digits k (n / 10))
 
-all_digits-snoc : (digits : List ℕ) (n : ℕ) → all_digits digits ≡ true
+pub all_digits-snoc : (digits : List ℕ) (n : ℕ) → all_digits digits ≡ true
     → all_digits (digits ++ (48 + n % 10) ∷ []) ≡ true
 all_digits-snoc [] n all = grind (arith, nat_tests)
 all_digits-snoc (b ∷ digits) n all = grind (arith, nat_tests, all_digits-snoc digits n)
 
-all_digits-last_digits : (k n : ℕ) → all_digits (last_digits k n) ≡ true
+pub all_digits-last_digits : (k n : ℕ) → all_digits (last_digits k n) ≡ true
 unfolding last_digits
 all_digits-last_digits zero n = refl
 all_digits-last_digits (suc k) n = all_digits-snoc (last_digits k (n / 10)) n (all_digits-last_digits k (n / 10))
 
-value_onto-snoc : (m : ℕ) (digits : List ℕ) (b : ℕ)
+pub value_onto-snoc : (m : ℕ) (digits : List ℕ) (b : ℕ)
     → value_onto m (digits ++ b ∷ []) ≡ 10 * value_onto m digits + (b - 48)
 value_onto-snoc m [] b = refl
 value_onto-snoc m (c ∷ digits) b = value_onto-snoc (10 * m + (c - 48)) digits b
 
-value_onto-last_digits : (k n : ℕ) → n < 10 ^ k → value_onto 0 (last_digits k n) ≡ n
+pub value_onto-last_digits : (k n : ℕ) → n < 10 ^ k → value_onto 0 (last_digits k n) ≡ n
 unfolding last_digits
 value_onto-last_digits zero n small = omega (arith, small)
 value_onto-last_digits (suc k) n small =

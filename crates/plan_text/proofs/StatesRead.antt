@@ -13,8 +13,7 @@ use Rattle.plan_text.specs.Said.{fault_at, then_at, entries_from_by}
 use Rattle.plan_text.specs.Parts.{end_said}
 use Rattle.plan_text.specs.Certificate.{AreLinesBy}
 use Rattle.plan_text.proofs.StateLines.{more_from, all_read, entries_from-end}
-use Rattle.plan_text.proofs.CertificatesReadBack.{keep_line-some}
-use Rattle.plan_text.proofs.BlankEnds.{IsBlank, kept, blank-end, end_said-blank}
+use Rattle.plan_text.proofs.BlankEnds.{IsBlank, keep_line-some, kept, blank-end, end_said-blank}
 
 -- what is said of a line is what it is
 pub record AreSaid (Entry : Type 0) (line_said : ℕ → List ℕ → Result Entry PlanCause)

@@ -19,7 +19,7 @@ abbrev pub AreFrom : ℕ → List ℕ → Type 0
 AreFrom low [] = Unit {0}
 AreFrom low (b ∷ bytes) = (low ≤ b) × AreFrom low bytes
 
-AreFrom-append : (low : ℕ) (xs ys : List ℕ) → AreFrom low xs → AreFrom low ys → AreFrom low (xs ++ ys)
+pub AreFrom-append : (low : ℕ) (xs ys : List ℕ) → AreFrom low xs → AreFrom low ys → AreFrom low (xs ++ ys)
 AreFrom-append low [] ys front back = back
 AreFrom-append low (b ∷ xs) ys front back = (front.0, AreFrom-append low xs ys front.1 back)
 
@@ -56,7 +56,7 @@ IsField-decimal n small = record {
   some = decimal_nonempty n small;
 }
 
-AreFrom-last_digits : (k n : ℕ) → AreFrom 33 (last_digits k n)
+pub AreFrom-last_digits : (k n : ℕ) → AreFrom 33 (last_digits k n)
 unfolding last_digits
 AreFrom-last_digits zero n = tt
 AreFrom-last_digits (suc k) n =

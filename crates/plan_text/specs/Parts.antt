@@ -7,13 +7,13 @@ use Rattle.plan_text.specs.declared.fault.PlanCause.TheVariants.{BadLine, Missin
 use Rattle.plan_text.specs.Entries.{EntryOf}
 use Rattle.plan_text.specs.Said.{fault_at, then_at, certificate_from_by}
 
--- A number that is too great for 64 bits becomes the greatest number of 64 bits.
-abbrev pub saturated_entry : {Value : Type 0} → EntryOf Value → EntryOf Value
-saturated_entry entry = record {
-  lower = entry.lower;
+-- A number that is too great for 64 bits becomes the greatest number of 64 bits. Of a value this is kept.
+abbrev pub saturated_entry : {Value : Type 0} → (Value → Value) → EntryOf Value → EntryOf Value
+saturated_entry kept entry = record {
+  lower = kept entry.lower;
   choice = option_map saturated entry.choice;
   rank = saturated entry.rank;
-  upper = entry.upper;
+  upper = kept entry.upper;
   reply = option_map saturated entry.reply;
 }
 

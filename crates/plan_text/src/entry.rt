@@ -48,7 +48,7 @@ impl Model for StateLine {
 impl StateLine {
     // Returns what a line spells of this state, if it has the right form.
     fn spelled(version: Version, state: u32, line: &[u8]) -> Option<StateLine>
-        ensures { result ≡ option_map saturated_entry (entry_in version state (fields_of line.now)) }
+        ensures { result ≡ option_map (saturated_entry (λ value. value)) (entry_in version state (fields_of line.now)) }
     {
         let (number, rest) = first_field(line)?;
         let (lower, rest) = first_field(rest)?;

@@ -32,7 +32,7 @@ pub fn infinite_states(
 
 /// Returns what choices cost the minimiser: their rewards, or too much if a choice of the minimiser leads out of the
 /// finite states.
-pub fn costs_of(
+pub(crate) fn costs_of(
     alloc: Global,
     question: &Question,
     finite: &Marks,

@@ -1,6 +1,6 @@
 -- A value is read in one way: its whole part ends at the point, and its text at the space behind it.
-use Rattle.std.proofs.Common.{◌≡◌, ◌≢◌, ◌∙◌, ◌≤◌, ◌<◌, ◌+◌, ◌*◌, ◌/◌, ◌%◌, ◌^◌, ℕ, zero, suc, List, [], ◌∷◌, ◌++◌, length}
-use Rattle.std.proofs.Common.{Option, Some, None, refl, sym, ap, arith, append-nil, lit<}
+use Rattle.std.proofs.Common.{◌≡◌, ◌≢◌, ◌∙◌, ◌≤◌, ◌<◌, ◌+◌, ◌*◌, ◌/◌, ◌%◌, ◌^◌, ℕ, zero, suc, List, [], ◌∷◌, ◌++◌}
+use Rattle.std.proofs.Common.{length, Option, Some, None, refl, sym, ap, arith, append-nil, lit<}
 use Rattle.std.specs.Prelude.{codes, decimal}
 use Rattle.std.proofs.Math.Nat.{one-le-pow}
 use Rattle.std.proofs.lemmas.Nat.{div-add-mod', div_below, mod_below}
@@ -68,7 +68,8 @@ number-finite : (places u : ℕ) (rest : List ℕ) → u ≤ unit → number_tex
 number-finite places u rest small same =
     let some : 1 ≤ 10 ^ places = one-le-pow places 10 (omega arith) in
     let fits = quotient-fits u (10 ^ places) some small in
-    by (decimal (u / 10 ^ places)) (decimal_nonempty (u / 10 ^ places) fits) (decimal-digits (u / 10 ^ places) fits) same
+    by (decimal (u / 10 ^ places)) (decimal_nonempty (u / 10 ^ places) fits)
+    (decimal-digits (u / 10 ^ places) fits) same
   where
     by : (digits : List ℕ) → 0 < length digits → AreDigits digits
         → digits ++ part_text places (u % 10 ^ places) ≡ 105 ∷ rest → ⊥
@@ -77,16 +78,20 @@ number-finite places u rest small same =
 
 -- 3. Values of the same places, alone and with a space behind them.
 
-pub value-one : (places : ℕ) (a b : Option ℕ) → IsValue a → IsValue b → value_text places a ≡ value_text places b → a ≡ b
+pub value-one : (places : ℕ) (a b : Option ℕ) → IsValue a → IsValue b → value_text places a ≡ value_text places b
+    → a ≡ b
 value-one places (Some u) (Some v) small_a small_b same = ap Some (number-one places u v small_a small_b same)
 value-one places (Some u) None small_a small_b same = absurd (number-finite places u (codes "nfinite") small_a same)
-value-one places None (Some v) small_a small_b same = absurd (number-finite places v (codes "nfinite") small_b (sym same))
+value-one places None (Some v) small_a small_b same =
+    absurd (number-finite places v (codes "nfinite") small_b (sym same))
 value-one places None None small_a small_b same = refl
 
 part-no_space : (places n : ℕ) → HasNo 32 (part_text places n)
 part-no_space zero n = tt
-part-no_space (suc k) n =
-    ((λ same. omega (arith, same)), HasNo-digits 32 (last_digits (suc k) n) (omega arith) (last_digits-digits (suc k) n))
+part-no_space (suc k) n = (
+  (λ same. omega (arith, same)),
+  HasNo-digits 32 (last_digits (suc k) n) (omega arith) (last_digits-digits (suc k) n),
+)
 
 value-no_space : (places : ℕ) (a : Option ℕ) → IsValue a → HasNo 32 (value_text places a)
 value-no_space places (Some u) small =

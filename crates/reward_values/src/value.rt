@@ -9,7 +9,8 @@ use game_outside::OutOfMemory;
 use itoa::Buffer;
 use plan_text::append;
 
-/// Appends a value of this many units of so many places. A value of `None` is infinite.
+/// Appends a value of this many units of so many places. A value of `None` is infinite. The only error is that memory
+/// ran out.
 pub fn append_reward_value(
     text: &mut Vec<u8>,
     places: u32,
@@ -65,7 +66,8 @@ fn append_part(text: &mut Vec<u8>, places: u32, units: u64) -> Result<(), OutOfM
     append_places(text, places, units)
 }
 
-// Appends the digits of a part, with their leading zeros: they stand behind the 1 of a number that is one greater.
+// Appends the digits of a part, with their leading zeros. A number that is greater by the units of the reward 1 has a 1
+// in front of these digits.
 fn append_places(text: &mut Vec<u8>, places: u32, units: u64) -> Result<(), OutOfMemory>
     requires places { places ≤ unit_digits }
     requires part { units < 10 ^ places }
