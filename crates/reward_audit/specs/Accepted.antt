@@ -4,14 +4,14 @@ use Rattle.game_model.specs.Query.{Query, states}
 use Rattle.reward_check.specs.Certificates.{Certificate}
 use Rattle.reward_check.specs.Parts.{IsAccepted}
 use Rattle.reward_text.specs.declared.plan.RewardPlan.{RewardPlan}
-use Rattle.reward_text.specs.Entries.{HasRewardStates, reward_entries_of}
+use Rattle.reward_text.specs.Entries.{HasRewardStates, certificate_of}
 use Rattle.reward_text.specs.Certificate.{IsRewardCertificate}
 use Rattle.reward_units.specs.Exact.{ExactRewards, AreRounded}
 
 -- The text has a certificate for the states of the question. Its places and its entries are those of the plan.
 pub record IsSaid (q : Query) (text : List ℕ) (plan : RewardPlan) : Type 0 where
   pub lists : HasRewardStates plan (states q)
-  pub said : IsRewardCertificate text plan.places (reward_entries_of plan)
+  pub said : IsRewardCertificate text (certificate_of plan)
 
 -- The certificate is that of the plan, over exact rewards that are rounded to units of its places.
 pub record IsCertificateOf (q : Query) (exact : ExactRewards) (plan : RewardPlan) (c : Certificate) : Type 0 where

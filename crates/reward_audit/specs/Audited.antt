@@ -5,8 +5,8 @@ use Rattle.reward_check.specs.Certificates.{Certificate, flat_rewards}
 use Rattle.reward_audit.specs.declared.audited.AuditedRewards.{AuditedRewards}
 
 -- The lists say this certificate of a question.
-abbrev pub certificate_of : Query → AuditedRewards → Certificate
-certificate_of q audited = record {
+abbrev pub audited_certificate : Query → AuditedRewards → Certificate
+audited_certificate q audited = record {
   question = q;
   low = flat_rewards q.game audited.low.items;
   high = flat_rewards q.game audited.high.items;

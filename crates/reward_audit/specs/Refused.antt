@@ -7,7 +7,7 @@ use Rattle.reward_check.specs.Certificates.{Certificate}
 use Rattle.reward_check.specs.Faults.{IsRewardFault}
 use Rattle.reward_check.specs.declared.check.RewardFault.{RewardFault}
 use Rattle.reward_text.specs.declared.plan.RewardPlan.{RewardPlan}
-use Rattle.reward_text.specs.Said.{reward_said}
+use Rattle.reward_text.specs.Said.{rewards_said}
 use Rattle.reward_units.specs.Exact.{ExactRewards}
 use Rattle.reward_audit.specs.declared.fault.RewardAuditFault.{RewardAuditFault}
 use Rattle.reward_audit.specs.declared.fault.RewardAuditFault.TheVariants.{Text, Plan}
@@ -23,7 +23,7 @@ pub record IsFaulty (q : Query) (exact : ExactRewards) (text : List ℕ) (fault 
 
 -- This is the first fault of a text.
 abbrev pub IsRefused : Query → ExactRewards → List ℕ → RewardAuditFault → Type 0
-IsRefused q exact text (Text fault) = reward_said text (states q) ≡ Err fault
+IsRefused q exact text (Text fault) = rewards_said text (states q) ≡ Err fault
 IsRefused q exact text (Plan fault) = IsFaulty q exact text fault
 
 -- Memory ran out.

@@ -1,11 +1,12 @@
 //! This module reads and checks a certificate.
 
-ghost use Rattle.std.specs.Prelude.{◌≡◌, ◌⊎◌, ℕ, ◌<◌, ◌≤◌, false, length, IfOk, IfErr};
+ghost use Rattle.std.specs.Prelude.{◌≡◌, ◌⊎◌, ℕ, ◌<◌, ◌≤◌, All, false, length, IfOk, IfErr};
 ghost use Rattle.text_lines.specs.Limits.{most_bytes};
+ghost use Rattle.game_model.specs.Limits.{unit};
 ghost use Rattle.game_model.specs.Query.{states, is_dead};
-ghost use Rattle.reward_units.specs.Rounded.{exact_in};
+ghost use Rattle.reward_units.specs.Rounded.{exact_in, paid_units, ArePaidUnits};
 ghost use Rattle.reward_units.specs.Units.{most_places};
-ghost use Rattle.reward_audit.specs.Audited.{certificate_of};
+ghost use Rattle.reward_audit.specs.Audited.{audited_certificate};
 ghost use Rattle.reward_audit.specs.Accepted.{IsAcceptedText, IsCertificateOf};
 ghost use Rattle.reward_audit.specs.Refused.{IsRefused, IsOutOfMemory};
 
@@ -31,7 +32,14 @@ pub fn audit_rewards(
     requires alive { (s : ℕ) → s < states question.now → is_dead question.now s ≡ false }
     requires short { length bytes.now ≤ most_bytes }
     ensures accepted { IfOk result (λ audited. IsAcceptedText question.now (exact_in question.now.game rewards.now)
-        bytes.now audited.plan (certificate_of question.now audited)) }
+        bytes.now audited.plan (audited_certificate question.now audited)) }
+    ensures units { IfOk result (λ audited. All (λ v. v ≤ unit) audited.plan.lower.items
+        × All (λ v. v ≤ unit) audited.plan.upper.items) }
+    ensures low { IfOk result (λ audited. ArePaidUnits question.now.game
+        (paid_units Rounding.Down (exact_in question.now.game rewards.now) audited.plan.places) audited.low.items) }
+    ensures high { IfOk result (λ audited. ArePaidUnits question.now.game
+        (paid_units Rounding.Up (exact_in question.now.game rewards.now) audited.plan.places) audited.high.items) }
+    ensures places { IfOk result (λ audited. audited.plan.places ≤ most_places) }
     ensures refused { IfErr result (λ fault. IsOutOfMemory fault
         ⊎ IsRefused question.now (exact_in question.now.game rewards.now) bytes.now fault) }
 {
@@ -49,8 +57,13 @@ fn with_rewards(
     plan: RewardPlan,
 ) -> Result<AuditedRewards, OutOfMemory>
     requires { plan.places ≤ most_places }
-    ensures { IfOk result (λ audited. IsCertificateOf question.now (exact_in question.now.game rewards.now) plan
-        (certificate_of question.now audited) × (audited.plan ≡ plan)) }
+    ensures same { IfOk result (λ audited. audited.plan ≡ plan) }
+    ensures certificate { IfOk result (λ audited. IsCertificateOf question.now
+        (exact_in question.now.game rewards.now) plan (audited_certificate question.now audited)) }
+    ensures low { IfOk result (λ audited. ArePaidUnits question.now.game
+        (paid_units Rounding.Down (exact_in question.now.game rewards.now) plan.places) audited.low.items) }
+    ensures high { IfOk result (λ audited. ArePaidUnits question.now.game
+        (paid_units Rounding.Up (exact_in question.now.game rewards.now) plan.places) audited.high.items) }
 {
     let game = question.game();
     let low = rewards_in_units(alloc, game, rewards, plan.places, Rounding::Down)?;

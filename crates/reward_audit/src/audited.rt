@@ -22,7 +22,7 @@ pub struct AuditedRewards {
 
 impl AuditedRewards {
     ghost use Rattle.reward_check.specs.Certificates.{said};
-    ghost use Rattle.reward_audit.specs.Audited.{certificate_of};
+    ghost use Rattle.reward_audit.specs.Audited.{audited_certificate};
 
     /// Returns the lists as tables of a question, as a check takes them.
     pub fn tables<'a>(&'a self, question: &'a Question<'a>) -> RewardTables<'a>
@@ -30,7 +30,7 @@ impl AuditedRewards {
         requires lists { HasRewardStates self.now.plan (states question.now) }
         requires lower { All (λ v. v ≤ unit) self.now.plan.lower.items }
         requires upper { All (λ v. v ≤ unit) self.now.plan.upper.items }
-        ensures { said result ≡ certificate_of question.now self.now }
+        ensures { said result ≡ audited_certificate question.now self.now }
     {
         question.invariant();
         RewardTables {
