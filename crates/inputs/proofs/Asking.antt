@@ -57,7 +57,7 @@ was_read refusal (Err fault) x is = cc (is)
 -- 1. A text.
 
 -- what is read of a text is true of it
-text_is : {X F : Type 0} (text : Text) (refusal : F → Refusal) (read : List ℕ → Result X F) (IsSo : List ℕ → X → Type 0)
+pub text_is : {X F : Type 0} (text : Text) (refusal : F → Refusal) (read : List ℕ → Result X F) (IsSo : List ℕ → X → Type 0)
     (source : Option (List ℕ)) (x : X) → ((bytes : List ℕ) → read bytes ≡ Ok x → IsSo bytes x)
     → and_then (text_said text source) (λ bytes. read_said refusal (read bytes)) ≡ Denoted x
     → GivenTextWith source (λ bytes. IsSo bytes x)
@@ -67,7 +67,7 @@ text_is text refusal read IsSo source x found is =
     record { text = r.0; given = held.0; short = held.1; is_so = found r.0 (was_read refusal (read r.0) x r.2) }
 
 -- and what is true of it is read
-is_text : {X F : Type 0} (text : Text) (refusal : F → Refusal) (read : List ℕ → Result X F)
+pub is_text : {X F : Type 0} (text : Text) (refusal : F → Refusal) (read : List ℕ → Result X F)
     (IsSo : List ℕ → X → Type 0) (source : Option (List ℕ)) (x : X)
     → ((bytes : List ℕ) → IsSo bytes x → read bytes ≡ Ok x) → GivenTextWith source (λ bytes. IsSo bytes x)
     → and_then (text_said text source) (λ bytes. read_said refusal (read bytes)) ≡ Denoted x
@@ -76,13 +76,13 @@ is_text text refusal read IsSo source x again is =
     ap (λ s. and_then (text_said text s) next) is.given ∙ ap (λ s. and_then s next) (short_says text is.text is.short)
     ∙ ap (read_said refusal) (again is.text is.is_so)
 
-owners_are : (name source : Option (List ℕ)) (states : ℕ) (owners : Ownership)
+pub owners_are : (name source : Option (List ℕ)) (states : ℕ) (owners : Ownership)
     → owners_said name source states ≡ Denoted owners → AreOwners name source states owners
 owners_are None source states owners is = cc (is)
 owners_are (Some name) source states owners is = text_is Own OfOwn (λ bytes. owners_of bytes states)
     (λ bytes o. DenotesOwners bytes states o) source owners (λ bytes. owners_of-found bytes states owners) is
 
-are_owners : (name source : Option (List ℕ)) (states : ℕ) (owners : Ownership) → AreOwners name source states owners
+pub are_owners : (name source : Option (List ℕ)) (states : ℕ) (owners : Ownership) → AreOwners name source states owners
     → owners_said name source states ≡ Denoted owners
 are_owners None source states owners is = ap (λ o. Denoted o) (sym is)
 are_owners (Some name) source states owners is = is_text Own OfOwn (λ bytes. owners_of bytes states)

@@ -20,7 +20,7 @@ use Rattle.inputs.proofs.Lengths.{short_says, long_refuses, longer}
 use Rattle.inputs.proofs.Loading.{read_as_told, wanting}
 
 -- what is held under a name is the text
-as_held : (holding : Option Holding) (name bytes : List ℕ) → IsHeldAs holding name bytes
+pub as_held : (holding : Option Holding) (name bytes : List ℕ) → IsHeldAs holding name bytes
     → IfKnown holding (λ held. Some bytes ≡ held name)
 as_held None name bytes is = tt
 as_held (Some held) name bytes is = sym is

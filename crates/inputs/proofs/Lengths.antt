@@ -10,13 +10,13 @@ use Rattle.output.specs.declared.refusal.Refusal.TheVariants.{TooLong}
 use Rattle.inputs.specs.Said.{Refuses, Denoted}
 use Rattle.inputs.specs.Texts.{text_said}
 
-test_le : (a b : ℕ) → b ≤ a → nat_lt a b ≡ false
+pub test_le : (a b : ℕ) → b ≤ a → nat_lt a b ≡ false
 test_le a b h = grind (arith, nat_tests)
 
-test_lt : (a b : ℕ) → a < b → nat_lt a b ≡ true
+pub test_lt : (a b : ℕ) → a < b → nat_lt a b ≡ true
 test_lt a b h = grind (arith, nat_tests)
 
-le_test : (a b : ℕ) → nat_lt a b ≡ false → b ≤ a
+pub le_test : (a b : ℕ) → nat_lt a b ≡ false → b ≤ a
 le_test a b e = grind (arith, nat_tests)
 
 -- a text within the limit says its bytes

@@ -23,12 +23,12 @@ use Rattle.inputs.proofs.Loading.{TextSays, text_kept}
 -- 1. Sources as they are told.
 
 -- a source for a text that plays no part
-as_told : (holding : Option Holding) (place : Holding → Option (List ℕ))
+pub as_told : (holding : Option Holding) (place : Holding → Option (List ℕ))
     → (source : Option (List ℕ)) × IfKnown holding (λ held. source ≡ place held)
 as_told None place = (None, tt)
 as_told (Some held) place = (place held, refl)
 
-all_told : (holding : Option Holding) (asked : Asked) (tra lab own : Option (List ℕ))
+pub all_told : (holding : Option Holding) (asked : Asked) (tra lab own : Option (List ℕ))
     → IfKnown holding (λ held. tra ≡ held asked.tra) → IfKnown holding (λ held. lab ≡ held asked.lab)
     → IfKnown holding (λ held. own ≡ held_own asked.own held)
     → AreSources holding asked (record { tra = tra; lab = lab; own = own })
@@ -42,7 +42,7 @@ abbrev pub ends : {X : Type 0} → Option Refusal → Said X
 ends None = NotHeld
 ends (Some refusal) = Refuses refusal
 
-ends-behind : {X Y : Type 0} (end : Option Refusal) (next : X → Said Y) → and_then (ends end) next ≡ ends end
+pub ends-behind : {X Y : Type 0} (end : Option Refusal) (next : X → Said Y) → and_then (ends end) next ≡ ends end
 ends-behind None next = refl
 ends-behind (Some refusal) next = refl
 

@@ -3,9 +3,10 @@ use Rattle.std.proofs.Common.{◌≡◌, ◌<◌, ◌-◌, ◌^◌, ℕ, Bool, t
 use Rattle.std.proofs.Common.{leb, ◌&&◌}
 use Rattle.std.specs.Option.{option_map}
 use Rattle.std.proofs.lemmas.Bool.Decides.{nat_tests}
+use Rattle.game_model.specs.Limits.{unit}
 use Rattle.text_lines.specs.Text.{saturated}
-use Rattle.plan_text.specs.Entries.{EntryOf, greatest_choice, greatest_rank}
-use Rattle.plan_text.specs.Said.{is_small, is_in_range_by, judged_by}
+use Rattle.plan_text.specs.Entries.{EntryOf, Entry, greatest_choice, greatest_rank}
+use Rattle.plan_text.specs.Said.{is_small, is_in_range_by, judged_by, judged}
 use Rattle.plan_text.specs.Parts.{saturated_entry}
 
 pub leb-saturated : (n most : ℕ) → most < 2 ^ 64 - 1 → leb (saturated n) most ≡ leb n most
@@ -72,5 +73,10 @@ module _ (Value : Type 0) (is_value : Value → Bool) (kept : Value → Value)
   judged-read read entry same = ap (judged_by (is_in_range_by is_value)) same ∙ judged-saturated entry
 
 -- a count of units is kept as it is
-pub units_alike : (is_value : ℕ → Bool) → IsJudgedAlike ℕ is_value (λ value. value)
+units_alike : (is_value : ℕ → Bool) → IsJudgedAlike ℕ is_value (λ value. value)
 units_alike is_value = record { alike = λ value. refl; same = λ value within. refl }
+
+-- and what was read of the line of a state is judged as what the line spells
+pub units-read : (read entry : Option Entry) → read ≡ option_map (saturated_entry (λ value. value)) entry
+    → judged read ≡ judged entry
+units-read = judged-read ℕ (λ value. leb value unit) (λ value. value) (units_alike (λ value. leb value unit))

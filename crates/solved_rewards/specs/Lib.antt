@@ -1,4 +1,5 @@
 pub mod Away
+pub mod Paid
 pub mod Solved
 pub mod Values
 pub mod inside

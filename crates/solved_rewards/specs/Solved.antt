@@ -7,7 +7,8 @@ use Rattle.reward_check.specs.Certificates.{Certificate, flat_rewards}
 use Rattle.reward_solver.specs.declared.search.RewardCandidates.{RewardCandidates}
 use Rattle.solved_rewards.specs.declared.away.AwayPlan.{AwayPlan}
 use Rattle.solved_rewards.specs.declared.solved.SolvedRewards.{SolvedRewards}
-use Rattle.solved_rewards.specs.Values.{value_of, AreValuesOf, NeedsChoice, NeedsReply}
+use Rattle.solved_rewards.specs.Paid.{IsLowerOf}
+use Rattle.solved_rewards.specs.Values.{value_of, NeedsChoice, NeedsReply}
 
 -- The lists say this certificate of a question.
 abbrev pub certificate_of : Query → SolvedRewards → Certificate
@@ -43,10 +44,10 @@ pub record HasGiven (away : AwayPlan) (candidates : RewardCandidates) (solved : 
   pub low : solved.low.items ≡ candidates.low.items
   pub high : solved.high.items ≡ candidates.high.items
 
--- Each lower value is that of the candidate, or each is 0. Each upper value that is a number is that of the candidate,
--- or 0 at a goal.
+-- The lower values are those of the candidates unless their choices do not pay them. Each upper value that is a number
+-- is that of the candidates, or 0 at a goal.
 pub record HasValuesOf (q : Query) (candidates : RewardCandidates) (solved : SolvedRewards) : Type 0 where
-  pub lower : AreValuesOf q solved.finite.items candidates.lower.items solved.lower.items
+  pub lower : IsLowerOf q solved.finite.items candidates solved.lower.items
   pub upper : IsTable q (value_of q solved.bounded.items candidates.upper.items) solved.upper.items
 
 -- Only the states that need a choice or a reply have one.

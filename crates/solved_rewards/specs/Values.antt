@@ -1,9 +1,8 @@
--- This module defines the values that a solver's candidates give, and the states that need a choice or a reply for them.
-use Rattle.std.specs.Prelude.{◌≡◌, ℕ, ◌<◌, ◌⊎◌, Bool, true, false, List, [], slice_index, min, if◌then◌else◌}
+-- This module defines the values that a solver's candidates give, and which states need a choice or a reply.
+use Rattle.std.specs.Prelude.{◌≡◌, ℕ, ◌<◌, Bool, true, false, List, slice_index, min, if◌then◌else◌}
 use Rattle.game_model.specs.declared.game.Side.TheVariants.{Max, Min}
 use Rattle.game_model.specs.Limits.{unit}
 use Rattle.game_model.specs.Query.{Query, is_goal, side_at}
-use Rattle.game_model.specs.Tables.{IsTable}
 use Rattle.expected_rewards.specs.Tables.{is_finite}
 
 -- A goal has 0, and so has a state whose value is no number. Another state has the candidate, of at most the unit, or 0
@@ -11,11 +10,6 @@ use Rattle.expected_rewards.specs.Tables.{is_finite}
 abbrev pub value_of : Query → List Bool → List ℕ → ℕ → ℕ
 value_of q numbers candidate s = if is_goal q s then 0 else
     (if is_finite numbers s then min (slice_index candidate s) unit else 0)
-
--- Each value is that of the candidate, or each is 0.
-abbrev pub AreValuesOf : Query → List Bool → List ℕ → List ℕ → Type 0
-AreValuesOf q numbers candidate values =
-    IsTable q (value_of q numbers candidate) values ⊎ IsTable q (value_of q numbers []) values
 
 -- The state needs a choice of the maximiser: its lower value is infinite or above 0.
 pub record NeedsChoice (q : Query) (finite : List Bool) (lower : List ℕ) (s : ℕ) : Type 0 where

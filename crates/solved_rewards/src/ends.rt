@@ -161,8 +161,9 @@ fn leads_low(question: &Question, ranks: &[u32], state: u32, choice: u32, rank: 
     requires ranks { length ranks.now ≡ states question.now }
 {
     question.invariant();
-    for to in question.game().successors(state, choice) {
-        if ranks[*to as usize] <= rank {
+    for place in 0..question.game().edge_count(state, choice) {
+        let to = question.game().edge(state, choice, place).to;
+        if ranks[to as usize] <= rank {
             return true;
         }
     }

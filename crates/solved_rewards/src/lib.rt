@@ -5,8 +5,8 @@
 //! accepts, whatever they are, if the finite states are known, with choices and ranks that prove that no other state is
 //! finite. The graph decides where a lower value is infinite: exactly at the states that are not finite. Elsewhere the
 //! candidates count, as long as the check accepts them. Lower values that are refused give way to 0 at all finite
-//! states, and upper values that are refused to none at all but the goals. How near the bounds are is no part of the
-//! contract.
+//! states, and upper values that are refused to none at all but the goals. The contract says which lower values count,
+//! but not that right upper values are kept.
 //!
 //! Upper values are only for states from which no choice that may be taken leaves them, and at which the candidate is
 //! below 10^15 units. The ranks of these states are the least by which each choice that may be taken leads down. Both

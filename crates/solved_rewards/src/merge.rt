@@ -3,8 +3,9 @@
 ghost use Rattle.std.specs.Prelude.{◌≡◌, ◌<◌, false, length, slice_index, IsSome, IfOk};
 ghost use Rattle.game_model.specs.Query.{states};
 ghost use Rattle.expected_rewards.specs.Tables.{is_finite};
-ghost use Rattle.solved_rewards.specs.Values.{NeedsChoice, NeedsReply};
-ghost use Rattle.solved_rewards.specs.inside.Merged.{IsAwayChoice, AreChoices, AreReplies, AreRanks, AreMerged};
+ghost use Rattle.solved_rewards.specs.Values.{NeedsReply};
+ghost use Rattle.solved_rewards.specs.inside.Merged.{IsChoiceAt, AreChoices};
+ghost use Rattle.solved_rewards.specs.inside.Merged.{AreReplies, AreRanks, AreMerged};
 
 use crate::lists::{bounded_list, value_list};
 use crate::sources::Sources;
@@ -54,12 +55,13 @@ impl Sources<'_> {
     /// Returns the choices of the maximiser.
     fn choices(&self, alloc: Global, lower: &[u64]) -> Result<Vec<Option<u32>>, OutOfMemory>
         requires { length lower.now ≡ states self.now.question.now }
-        ensures { IfOk result (λ list. AreChoices self.now.question.now self.now.finite.now self.now.away_choices.now
-            lower.now list.items) }
+        ensures { IfOk result (λ list. AreChoices self.now lower.now list.items) }
     {
-        let list = (0..self.question.game().states())
-            .map(|state| self.choice_at(lower, state))
-            .collect(alloc)?;
+        let states = self.question.game().states();
+        let mut list = Vec::with_capacity(alloc, states as usize)?;
+        for state in 0..states {
+            list.push(self.choice_at(lower, state))?;
+        }
         Ok(list)
     }
 
@@ -67,8 +69,7 @@ impl Sources<'_> {
     fn choice_at(&self, lower: &[u64], state: u32) -> Option<u32>
         requires lower { length lower.now ≡ states self.now.question.now }
         requires state { state < states self.now.question.now }
-        ensures away { IsAwayChoice self.now.question.now self.now.finite.now self.now.away_choices.now state result }
-        ensures needed { IsSome result → NeedsChoice self.now.question.now self.now.finite.now lower.now state }
+        ensures { IsChoiceAt self.now lower.now state result }
     {
         if self.question.is_goal(state) || self.question.side(state) == Side::Min {
             return None;

@@ -1,12 +1,12 @@
 //! This module makes the certificate.
 
-ghost use Rattle.std.specs.Prelude.{◌≡◌, ℕ, ◌<◌, [], false, IfOk, IfSome};
+ghost use Rattle.std.specs.Prelude.{◌≡◌, ℕ, ◌<◌, [], false, IfOk, IfSome, IfNone};
 ghost use Rattle.game_model.specs.Query.{states, is_dead};
 ghost use Rattle.predecessors.specs.Lists.{ArePredecessors};
 ghost use Rattle.reward_check.specs.Parts.{IsAccepted};
 ghost use Rattle.solved_rewards.specs.Away.{IsAwayPlan};
 ghost use Rattle.solved_rewards.specs.Solved.{certificate_of, HasStates, HasGiven, HasValuesOf, HasNoMore};
-ghost use Rattle.solved_rewards.specs.inside.Merged.{AreMerged, AreFilled, merged};
+ghost use Rattle.solved_rewards.specs.inside.Merged.{ProvesAway, AreMerged, IsRefused, AreFilled, merged};
 
 use crate::away::AwayPlan;
 use crate::bounded::bounded_states;
@@ -26,9 +26,9 @@ use std::alloc::Global;
 /// proves which states are not finite and from the candidates of a solver. The certificate passes the check of an
 /// audit, whatever the candidates are. Its lower value is infinite exactly at the states that are not finite.
 ///
-/// At the other states the lower values are the candidate's, or all are 0 if these are refused. Upper values are the
-/// candidate's at the states that can have one, or 0 at the goals alone if these are refused. A state that needs no
-/// choice or reply has none. The only error is that memory ran out.
+/// At the other states the lower values are the candidate's, or all are 0 if its choices do not pay these. Upper values
+/// are the candidate's at the states that can have one, or 0 at the goals alone if these are refused; the contract does
+/// not say which states can. A state that needs no choice or reply has none. The only error is that memory ran out.
 pub fn solve_rewards(
     alloc: Global,
     question: &Question,
@@ -40,7 +40,7 @@ pub fn solve_rewards(
     requires alive { (s : ℕ) → s < states question.now → is_dead question.now s ≡ false }
     requires away { IsAwayPlan question.now away }
     ensures accepted { IfOk result (λ solved. IsAccepted (certificate_of question.now solved)) }
-    ensures given { IfOk result (HasGiven away candidates) }
+    ensures given { IfOk result (HasGiven away.entry candidates) }
     ensures lists { IfOk result (HasStates (states question.now)) }
     ensures values { IfOk result (HasValuesOf question.now candidates) }
     ensures plans { IfOk result (HasNoMore question.now) }
@@ -89,6 +89,7 @@ fn first_accepted(
     sources: &Sources<'_>,
     found: &[bool],
 ) -> Result<MergedLists, OutOfMemory>
+    requires { ProvesAway sources.now }
     ensures accepted { IfOk result (λ lists. IsAccepted (merged sources.now lists)) }
     ensures filled { IfOk result (AreFilled sources.now) }
 {
@@ -114,6 +115,7 @@ fn accepted(
 ) -> Result<Option<MergedLists>, OutOfMemory>
     ensures accepted { IfOk result (λ some. IfSome some (λ lists. IsAccepted (merged sources.now lists))) }
     ensures merged { IfOk result (λ some. IfSome some (AreMerged sources.now found.now lower.now)) }
+    ensures refused { IfOk result (λ some. IfNone some (IsRefused sources.now found.now lower.now)) }
 {
     let lists = merge(alloc, sources, found, lower)?;
     let tables = RewardTables {
@@ -136,6 +138,7 @@ fn accepted(
 
 /// Merges sources without states that were found and without a candidate. The check accepts what the graph alone gives.
 fn weakest(alloc: Global, sources: &Sources<'_>) -> Result<MergedLists, OutOfMemory>
+    requires { ProvesAway sources.now }
     ensures accepted { IfOk result (λ lists. IsAccepted (merged sources.now lists)) }
     ensures merged { IfOk result (AreMerged sources.now [] []) }
 {

@@ -1,9 +1,7 @@
 //! This module has what a certificate is made of.
 
-ghost use Rattle.std.specs.Prelude.{◌≡◌, ℕ, ◌<◌, false, length, slice_index};
+ghost use Rattle.std.specs.Prelude.{◌≡◌, ℕ, ◌<◌, false, length};
 ghost use Rattle.game_model.specs.Query.{IsQuery, states, is_dead};
-ghost use Rattle.expected_rewards.specs.Tables.{AreAwayRanks};
-ghost use Rattle.solved_rewards.specs.Away.{HasAwayChoices};
 
 use game_model::Question;
 use reward_solver::RewardCandidates;
@@ -24,6 +22,4 @@ pub struct Sources<'a> {
     ghost many_choices: { length away_choices.now ≡ states question.now },
     ghost many_ranks: { length away_ranks.now ≡ states question.now },
     ghost many_ends: { length end_ranks.now ≡ states question.now },
-    ghost away: { AreAwayRanks question.now finite.now away_choices.now (slice_index away_ranks.now) },
-    ghost chosen: { HasAwayChoices question.now finite.now away_choices.now },
 }

@@ -22,8 +22,8 @@ returns-in_ok-loaded-in-Check g c = rw c.in-Check.is (answered_by (check_asks (c
 
 pub returns-in_err-loaded-in-Audit : goal.returns-in_err-loaded-in-Audit
 returns-in_err-loaded-in-Audit g c =
-    let p = err_from_is_err_and c.from_residual.result
-    c.from_residual.ensures.1 in
+    let p = err_from_is_err_and c.from_residual-in_err-loaded-in-Audit.result
+    c.from_residual-in_err-loaded-in-Audit.ensures.1 in
     let e = c.in_err-loaded-in-Audit.ensures in
     rw (c.in-Audit.is, p.1, p.2)
     (unloaded (audit_asks (audit_of c.in-Audit.audit)) e.refused e.steadily e.shelf e.caused)
@@ -35,8 +35,8 @@ returns-in_ok-loaded-in-Audit g c = rw c.in-Audit.is
 
 pub returns-in_err-loaded-in-Solve : goal.returns-in_err-loaded-in-Solve
 returns-in_err-loaded-in-Solve g c =
-    let p = err_from_is_err_and c.from_residual.result
-    c.from_residual.ensures.1 in
+    let p = err_from_is_err_and c.from_residual-in_err-loaded-in-Solve.result
+    c.from_residual-in_err-loaded-in-Solve.ensures.1 in
     let e = c.in_err-loaded-in-Solve.ensures in
     rw (c.in-Solve.is, p.1, p.2)
     (unloaded (solve_asks (solve_of c.in-Solve.solve)) e.refused e.steadily e.shelf e.caused)
@@ -55,8 +55,8 @@ returns-in_ok-loaded-in-Solve g c = rw c.in-Solve.is
 
 pub returns-in_err-loaded-in-Sure : goal.returns-in_err-loaded-in-Sure
 returns-in_err-loaded-in-Sure g c =
-    let p = err_from_is_err_and c.from_residual.result
-    c.from_residual.ensures.1 in
+    let p = err_from_is_err_and c.from_residual-in_err-loaded-in-Sure.result
+    c.from_residual-in_err-loaded-in-Sure.ensures.1 in
     let e = c.in_err-loaded-in-Sure.ensures in
     rw (c.in-Sure.is, p.1, p.2)
     (unloaded (sure_asks (asked_of_words c.in-Sure.asked)) e.refused e.steadily e.shelf e.caused)

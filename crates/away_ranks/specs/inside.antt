@@ -1,0 +1,4 @@
+-- The crate's own loops and private functions use these definitions: no clause of a public function unfolds to them.
+pub mod Ranked
+pub mod Left
+pub mod Search
