@@ -39,7 +39,7 @@ up_to_byte c (x ∷ xs) (y ∷ ys) r s hx hy e =
 
 -- 2. Numbers of the same places.
 
-quotient-fits : (n p : ℕ) → 1 ≤ p → n ≤ unit → n / p < 2 ^ 64
+pub quotient-fits : (n p : ℕ) → 1 ≤ p → n ≤ unit → n / p < 2 ^ 64
 quotient-fits n p some small = div_below n p (2 ^ 64) some (omega (arith, some, small))
 
 -- a number is its whole part and what stands behind it
@@ -64,7 +64,7 @@ number-one (suc k) u v small_u small_v same =
     (last_digits-one (suc k) (u % p) (v % p) (mod_below u p some) (mod_below v p some) parts.1)
 
 -- a number begins with a digit, and so it is not the word for an infinite value
-number-finite : (places u : ℕ) (rest : List ℕ) → u ≤ unit → number_text places u ≢ 105 ∷ rest
+pub number-finite : (places u : ℕ) (rest : List ℕ) → u ≤ unit → number_text places u ≢ 105 ∷ rest
 number-finite places u rest small same =
     let some : 1 ≤ 10 ^ places = one-le-pow places 10 (omega arith) in
     let fits = quotient-fits u (10 ^ places) some small in

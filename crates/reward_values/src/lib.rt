@@ -9,4 +9,4 @@
 pub mod laws;
 mod value;
 
-pub use value::append_reward_value;
+pub use value::{append_reward_value, units_of_one};

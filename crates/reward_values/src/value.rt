@@ -35,8 +35,8 @@ fn append_units(text: &mut Vec<u8>, places: u32, units: u64) -> Result<(), OutOf
     append_part(text, places, units % one)
 }
 
-// Returns how many units the reward 1 has.
-fn units_of_one(places: u32) -> u64
+/// Returns how many units of so many places the reward 1 has.
+pub fn units_of_one(places: u32) -> u64
     requires { places ≤ unit_digits }
     ensures power { result ≡ 10 ^ places }
     ensures some { 1 ≤ result }
