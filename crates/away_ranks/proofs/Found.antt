@@ -1,5 +1,6 @@
 -- What is found when no more states go.
-use Rattle.std.proofs.Common.{◌≡◌, ◌⊎◌, ℕ, ◌<◌, ◌≤◌, Bool, true, false, not, map, List, length, get_or, arith, refl, sym, ap}
+use Rattle.std.proofs.Common.{◌≡◌, ◌⊎◌, ℕ, ◌<◌, ◌≤◌, Bool, true, false, not, map, List, length, get_or, arith, refl}
+use Rattle.std.proofs.Common.{sym, ap}
 use Rattle.std.proofs.Common.{◌∙◌, subst, inl, inr, Option, IsSomeAnd, Result, Ok, Err, IfOk}
 use Rattle.std.specs.Prelude.{slice_index, slice_index_or}
 use Rattle.std.proofs.lemmas.Bool.{cases_Bool, not_from_true, not_from_false, not-false, not-true}

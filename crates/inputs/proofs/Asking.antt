@@ -57,7 +57,8 @@ was_read refusal (Err fault) x is = cc (is)
 -- 1. A text.
 
 -- what is read of a text is true of it
-pub text_is : {X F : Type 0} (text : Text) (refusal : F → Refusal) (read : List ℕ → Result X F) (IsSo : List ℕ → X → Type 0)
+pub text_is : {X F : Type 0} (text : Text) (refusal : F → Refusal) (read : List ℕ → Result X F)
+    (IsSo : List ℕ → X → Type 0)
     (source : Option (List ℕ)) (x : X) → ((bytes : List ℕ) → read bytes ≡ Ok x → IsSo bytes x)
     → and_then (text_said text source) (λ bytes. read_said refusal (read bytes)) ≡ Denoted x
     → GivenTextWith source (λ bytes. IsSo bytes x)

@@ -36,7 +36,8 @@ in_order a b c d e f rest = simp append_assoc
 
 module _ (Value : Type 0) (value_text : Value → List ℕ) (value_in : List ℕ → Option Value) (IsValue : Value → Type 0)
     (law : AreReadBack Value value_text value_in IsValue) where
-  AreFields-later : (entry : EntryOf Value) → IsInRangeOf Value IsValue entry → AreFields (later_fields value_text entry)
+  AreFields-later : (entry : EntryOf Value) → IsInRangeOf Value IsValue entry
+      → AreFields (later_fields value_text entry)
   AreFields-later entry is = (
     law.field entry.lower is.lower,
     (

@@ -45,7 +45,8 @@ module _ (Entry : Type 0) (line_said : ℕ → List ℕ → Result Entry PlanCau
       by (Err cause) same = cc
 
   pub entries_from-fault : (number : ℕ) (lines : List (List ℕ)) (fault : PlanFault)
-      → first_said_by line_said s number lines ≡ Err fault → entries_from_by line_said states before number lines ≡ Err fault
+      → first_said_by line_said s number lines ≡ Err fault
+      → entries_from_by line_said states before number lines ≡ Err fault
   entries_from-fault number [] fault said =
       let same : fault_at number MissingLine ≡ fault = cc in
       simp (count, not_all) (ap (λ f. Err f) same)

@@ -64,7 +64,8 @@ module _ (Entry : Type 0) (line_said : ℕ → List ℕ → Result Entry PlanCau
   -- one line more
   read_more : (states : ℕ) (before : List Entry) (line : List ℕ) (lines : List (List ℕ))
       (entry : Entry) (entries : List Entry) → IsLine (length before) line entry
-      → AreRead Entry IsLine states (before ++ entry ∷ []) lines entries → AreRead Entry IsLine states before (line ∷ lines) entries
+      → AreRead Entry IsLine states (before ++ entry ∷ []) lines entries
+      → AreRead Entry IsLine states before (line ∷ lines) entries
   read_more states before line lines entry entries is read =
       let one_more = length_push before entry in
       record {
@@ -109,7 +110,8 @@ module _ (Entry : Type 0) (line_said : ℕ → List ℕ → Result Entry PlanCau
       by : (v : Bool) → eqb (length before) states ≡ v → AreRead Entry IsLine states before [] entries
       by true full = read_end states before number [] entries (eqb-true (length before) states full) said
       by false fewer =
-          let missing : entries_from_by line_said states before number [] ≡ Err (fault_at number MissingLine) = simp fewer in
+          let missing : entries_from_by line_said states before number [] ≡ Err (fault_at number MissingLine) =
+          simp fewer in
           cc
   entries_from-one states before number (line ∷ lines) entries said =
       by (eqb (length before) states) refl
@@ -122,7 +124,8 @@ module _ (Entry : Type 0) (line_said : ℕ → List ℕ → Result Entry PlanCau
       by true full behind =
           read_end states before number (line ∷ lines) entries (eqb-true (length before) states full) said
       by false fewer behind =
-          let missing : entries_from_by line_said states before number [] ≡ Err (fault_at number MissingLine) = simp fewer in
+          let missing : entries_from_by line_said states before number [] ≡ Err (fault_at number MissingLine) =
+          simp fewer in
           let all = kept (List Entry) (λ ls. entries_from_by line_said states before number ls) entries
           (fault_at number MissingLine) line (significant lines) missing said in
           read_line states before number line lines (significant lines) entries fewer all behind

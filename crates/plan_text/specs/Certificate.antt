@@ -45,5 +45,5 @@ pub record IsCertificateBy (Entry : Type 0) (word : List ℕ) (Opens : List ℕ 
 -- The text has a certificate of probabilities, in one of its versions.
 pub record IsCertificate (text : List ℕ) (entries : List Entry) : Type 0 where
   pub version : Version
-  pub told : IsCertificateBy Entry (codes "certificate") (IsFirstLine version (length entries)) (IsEntryLine version) text
-      entries
+  pub told : IsCertificateBy Entry (codes "certificate") (IsFirstLine version (length entries)) (IsEntryLine version)
+      text entries

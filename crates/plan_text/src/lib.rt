@@ -5,8 +5,8 @@
 //! count of units, is one digit, a point and fifteen digits ([`fixed_text`]), so each text has one reading.
 //! Certificates of the first version, whose values have twelve digits after the point, are read too.
 //!
-//! What does not depend on the form of a value is said of any: a crate that writes and reads another kind of certificate
-//! takes the entry, the lines, the first line and the end of a text from here.
+//! What does not depend on the form of a value is said of any: a crate that writes and reads another kind of
+//! certificate takes the entry, the lines, the first line and the end of a text from here.
 #![tactic(auto)]
 
 mod entry;

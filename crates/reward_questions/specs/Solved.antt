@@ -11,9 +11,9 @@ use Rattle.reward_units.specs.declared.rounded.Rounding.TheVariants.{Down, Up}
 use Rattle.solved_rewards.specs.declared.solved.SolvedRewards.{SolvedRewards}
 use Rattle.solved_rewards.specs.Solved.{certificate_of, HasStates, HasNoMore}
 
--- The certificate is accepted, and its lower value is a number exactly where the minimiser reaches a goal almost surely.
--- Its rewards are those of the table, in units of so many places, rounded down and rounded up. Only the states that need
--- a choice or a reply have one.
+-- The certificate is accepted, and its lower value is a number exactly where the minimiser reaches a goal almost
+-- surely. Its rewards are those of the table, in units of so many places, rounded down and rounded up. Only the states
+-- that need a choice or a reply have one.
 pub record IsSolvedQuestion (q : Query) (table : List (Option Fraction)) (solved : SolvedRewards) : Type 0 where
   pub accepted : IsAccepted (certificate_of q solved)
   pub finite : AreAlmostSure (turned q) solved.finite.items

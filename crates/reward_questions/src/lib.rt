@@ -1,9 +1,9 @@
 //! This crate solves a question of expected rewards: a solver that nobody trusts finds its values, and proved checks
 //! accept them.
 //!
-//! [`solve_reward_question`] finds the states at which what is expected is infinite, has `reward_solver` find tables for
-//! the others, and hands out the certificate that `solved_rewards` makes of these. Its values are sound at every state,
-//! whatever the solver found.
+//! [`solve_reward_question`] finds the states at which what is expected is infinite, has `reward_solver` find tables
+//! for the others, and hands out the certificate that `solved_rewards` makes of these. Its values are sound at every
+//! state, whatever the solver found.
 #![tactic(auto)]
 
 ghost use Rattle.std.specs.Prelude.{◌≡◌, ℕ, ◌<◌, false, IfOk};

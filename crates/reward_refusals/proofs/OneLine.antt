@@ -208,22 +208,34 @@ reward_refusal-one a (Shared b) ca cb ha hb e =
     absurd (cc (other.1))
 reward_refusal-one (OfRewards a) (OfRewards b) ca cb ha hb e = ap OfRewards (rewards_faults-one a b ha hb e)
 reward_refusal-one (OfRewards a) RewardsTooLong ca cb ha hb e =
-    absurd (rewards-not_long a.cause (rewards_refused-one a.line 0 (rewards_text a.cause) (codes "TooLong") ha.0 (omega arith) e).1)
+    absurd (rewards-not_long a.cause (rewards_refused-one a.line 0 (rewards_text a.cause) (codes "TooLong") ha.0
+    (omega arith) e).1)
 reward_refusal-one RewardsTooLong (OfRewards b) ca cb ha hb e =
-    absurd (rewards-not_long b.cause (rewards_refused-one b.line 0 (rewards_text b.cause) (codes "TooLong") hb.0 (omega arith) (sym e)).1)
+    absurd (rewards-not_long b.cause (rewards_refused-one b.line 0 (rewards_text b.cause) (codes "TooLong") hb.0
+    (omega arith) (sym e)).1)
 reward_refusal-one RewardsTooLong RewardsTooLong ca cb ha hb e = refl
-reward_refusal-one (OfRewards a) (OfCertificateText b) ca cb ha hb e = absurd (rewards-not_cert a.line b.line (rewards_text a.cause) (plan_cause_text b.cause) e)
-reward_refusal-one (OfRewards a) (OfCertificate b) ca cb ha hb e = absurd (rewards-not_cert a.line 0 (rewards_text a.cause) (reward_text b.state b.cause) e)
-reward_refusal-one RewardsTooLong (OfCertificateText b) ca cb ha hb e = absurd (rewards-not_cert 0 b.line (codes "TooLong") (plan_cause_text b.cause) e)
-reward_refusal-one RewardsTooLong (OfCertificate b) ca cb ha hb e = absurd (rewards-not_cert 0 0 (codes "TooLong") (reward_text b.state b.cause) e)
-reward_refusal-one (OfCertificateText a) (OfRewards b) ca cb ha hb e = absurd (rewards-not_cert b.line a.line (rewards_text b.cause) (plan_cause_text a.cause) (sym e))
-reward_refusal-one (OfCertificate a) (OfRewards b) ca cb ha hb e = absurd (rewards-not_cert b.line 0 (rewards_text b.cause) (reward_text a.state a.cause) (sym e))
-reward_refusal-one (OfCertificateText a) RewardsTooLong ca cb ha hb e = absurd (rewards-not_cert 0 a.line (codes "TooLong") (plan_cause_text a.cause) (sym e))
-reward_refusal-one (OfCertificate a) RewardsTooLong ca cb ha hb e = absurd (rewards-not_cert 0 0 (codes "TooLong") (reward_text a.state a.cause) (sym e))
+reward_refusal-one (OfRewards a) (OfCertificateText b) ca cb ha hb e =
+    absurd (rewards-not_cert a.line b.line (rewards_text a.cause) (plan_cause_text b.cause) e)
+reward_refusal-one (OfRewards a) (OfCertificate b) ca cb ha hb e =
+    absurd (rewards-not_cert a.line 0 (rewards_text a.cause) (reward_text b.state b.cause) e)
+reward_refusal-one RewardsTooLong (OfCertificateText b) ca cb ha hb e =
+    absurd (rewards-not_cert 0 b.line (codes "TooLong") (plan_cause_text b.cause) e)
+reward_refusal-one RewardsTooLong (OfCertificate b) ca cb ha hb e =
+    absurd (rewards-not_cert 0 0 (codes "TooLong") (reward_text b.state b.cause) e)
+reward_refusal-one (OfCertificateText a) (OfRewards b) ca cb ha hb e =
+    absurd (rewards-not_cert b.line a.line (rewards_text b.cause) (plan_cause_text a.cause) (sym e))
+reward_refusal-one (OfCertificate a) (OfRewards b) ca cb ha hb e =
+    absurd (rewards-not_cert b.line 0 (rewards_text b.cause) (reward_text a.state a.cause) (sym e))
+reward_refusal-one (OfCertificateText a) RewardsTooLong ca cb ha hb e =
+    absurd (rewards-not_cert 0 a.line (codes "TooLong") (plan_cause_text a.cause) (sym e))
+reward_refusal-one (OfCertificate a) RewardsTooLong ca cb ha hb e =
+    absurd (rewards-not_cert 0 0 (codes "TooLong") (reward_text a.state a.cause) (sym e))
 reward_refusal-one (OfCertificateText a) (OfCertificateText b) ca cb ha hb e =
     ap OfCertificateText (plan_faults-one a b ha hb e)
 reward_refusal-one (OfCertificateText a) (OfCertificate b) ca cb ha hb e =
-    absurd (reward-not_plan b.state b.cause a.cause (sym (cert_refused-one a.line 0 (plan_cause_text a.cause) (reward_text b.state b.cause) ha (omega arith) e).1))
+    absurd (reward-not_plan b.state b.cause a.cause (sym (cert_refused-one a.line 0 (plan_cause_text a.cause)
+    (reward_text b.state b.cause) ha (omega arith) e).1))
 reward_refusal-one (OfCertificate a) (OfCertificateText b) ca cb ha hb e =
-    absurd (reward-not_plan a.state a.cause b.cause (cert_refused-one 0 b.line (reward_text a.state a.cause) (plan_cause_text b.cause) (omega arith) hb e).1)
+    absurd (reward-not_plan a.state a.cause b.cause (cert_refused-one 0 b.line (reward_text a.state a.cause)
+    (plan_cause_text b.cause) (omega arith) hb e).1)
 reward_refusal-one (OfCertificate a) (OfCertificate b) ca cb ha hb e = ap OfCertificate (reward_faults-one a b ha hb e)

@@ -40,7 +40,8 @@ bounds-kept None (Some upper) = refl
 bounds-kept (Some lower) None = refl
 bounds-kept (Some lower) (Some upper) = refl
 
-with_bounds-kept : (entry : Option RewardEntry) → with_bounds (option_map (saturated_entry (option_map saturated)) entry)
+with_bounds-kept : (entry : Option RewardEntry)
+    → with_bounds (option_map (saturated_entry (option_map saturated)) entry)
     ≡ option_map (saturated_entry (option_map saturated)) (with_bounds entry)
 with_bounds-kept None = refl
 with_bounds-kept (Some entry) = by (are_bounds entry.lower entry.upper) refl

@@ -1,5 +1,6 @@
 -- The first line of a certificate of rewards.
-use Rattle.std.proofs.Common.{◌≡◌, ◌∙◌, ◌≤◌, ℕ, Bool, true, false, cond, List, [], ◌∷◌, Option, Some, None, Ok, Err, refl}
+use Rattle.std.proofs.Common.{◌≡◌, ◌∙◌, ◌≤◌, ℕ, Bool, true, false, cond, List, [], ◌∷◌, Option, Some, None, Ok, Err}
+use Rattle.std.proofs.Common.{refl}
 use Rattle.std.proofs.Common.{ap, subst, eqb, leb, le-leb, bytes_eq}
 use Rattle.std.specs.Prelude.{codes}
 use Rattle.std.proofs.lemmas.Bool.{eqb-true, eq-eqb, leb-true}
@@ -73,7 +74,8 @@ header-one states places line named said = by (fields_of line) refl named said
 pub numbers-told : (states places : ℕ) → places ≤ unit_digits
     → numbers_said states (codes "1") (Some places) (Some states) ≡ Ok places
 numbers-told states places few =
-    ap (λ v. cond v (cond (eqb states states) (Ok places) (Err StateCount)) (Err Places)) (le-leb places unit_digits few)
+    ap (λ v. cond v (cond (eqb states states) (Ok places) (Err StateCount)) (Err Places))
+    (le-leb places unit_digits few)
     ∙ ap (λ v. cond v (Ok places) (Err StateCount)) (eq-eqb states states refl)
 
 pub header-told : (states places : ℕ) (line : List ℕ) → IsRewardHeading places states line

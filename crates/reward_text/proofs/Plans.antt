@@ -1,22 +1,17 @@
 -- What a plan of rewards says of each state, as it grows.
-use Rattle.std.proofs.Common.{◌≡◌, ◌<◌, ◌+◌, ◌-◌, ℕ, suc, Bool, false, cond, List, [], ◌∷◌, ◌++◌, length, map, Option, Some, None}
+use Rattle.std.proofs.Common.{◌≡◌, ◌<◌, ◌+◌, ◌-◌, ℕ, Bool, false, cond, List, [], ◌∷◌, ◌++◌, length, map, Option, Some}
+use Rattle.std.proofs.Common.{None}
 use Rattle.std.proofs.Common.{refl, sym, ap, ◌∙◌, arith, append_assoc}
 use Rattle.std.specs.List.{range_with_len}
 use Rattle.std.proofs.lemmas.List.{length_push, get_or_append_left, get_or_push}
 use Rattle.std.proofs.lemmas.List.FromFn.{map-range_with_len_more, fill_by_all, length-map-range_with_len}
 use Rattle.std.proofs.lemmas.List.FromFn.{get_or-map-range_with_len}
 use Rattle.plan_text.specs.Written.{entry_lines_by}
+use Rattle.plan_text.proofs.EntryLines.{lines_more}
 use Rattle.reward_text.specs.declared.plan.RewardPlan.{RewardPlan}
 use Rattle.reward_text.specs.Entries.{RewardEntry, HasRewardStates, value_at, reward_entry_at, reward_entries_of}
 use Rattle.reward_text.specs.Written.{reward_entry_text}
 use Rattle.reward_text.specs.inside.Read.{is_number, units_or_zero}
-
--- the first of the lines of the states that are left
-lines_more : (places : ℕ) (f : ℕ → RewardEntry) (s n : ℕ) → s < n
-    → entry_lines_by (reward_entry_text places) s (map f (range_with_len s (n - s)))
-    ≡ reward_entry_text places s (f s)
-    ++ entry_lines_by (reward_entry_text places) (s + 1) (map f (range_with_len (s + 1) (n - (s + 1))))
-lines_more places f s n within = let more : n - s ≡ suc (n - (s + 1)) = omega arith in rw more refl
 
 -- a line was appended, and the others are left
 pub line_added : (places : ℕ) (f : ℕ → RewardEntry) (s n : ℕ) (old new whole : List ℕ) → s < n
@@ -27,7 +22,7 @@ line_added places f s n old new whole within added all =
     let rest = entry_lines_by (reward_entry_text places) (s + 1) (map f (range_with_len (s + 1) (n - (s + 1)))) in
     ap (λ t. t ++ rest) added
     ∙ append_assoc old (reward_entry_text places s (f s)) rest
-    ∙ ap (λ t. old ++ t) (sym (lines_more places f s n within))
+    ∙ ap (λ t. old ++ t) (sym (lines_more RewardEntry (reward_entry_text places) f s n within))
     ∙ all
 
 -- one more state

@@ -1,5 +1,6 @@
 -- A certificate of rewards that was written is read back, also behind other lines.
-use Rattle.std.proofs.Common.{◌≡◌, ◌∙◌, ◌≤◌, ◌<◌, ◌+◌, ◌^◌, ℕ, List, [], ◌∷◌, ◌++◌, length, Option, Result, Some, Ok, ap}
+use Rattle.std.proofs.Common.{◌≡◌, ◌∙◌, ◌≤◌, ◌<◌, ◌+◌, ◌^◌, ℕ, List, [], ◌∷◌, ◌++◌, length, Option, Result, Some, Ok}
+use Rattle.std.proofs.Common.{ap}
 use Rattle.std.proofs.Common.{sym, arith, append_assoc}
 use Rattle.std.specs.Prelude.{All, codes, decimal}
 use Rattle.std.proofs.lemmas.List.Elements.{All-nil, All-cons, All-tail}

@@ -21,8 +21,8 @@ pub record IsRewardHeading (places states : ℕ) (line : List ℕ) : Type 0 wher
   pub few : places ≤ unit_digits
   pub counted : number_of count ≡ Some states
 
--- The text has this certificate: lines that do not begin with the word, its first line, a line for each entry, and blank
--- lines.
+-- The text has this certificate: lines that do not begin with the word, its first line, a line for each entry, and
+-- blank lines.
 abbrev pub IsRewardCertificate : List ℕ → RewardCertificate → Type 0
 IsRewardCertificate text certificate = IsCertificateBy RewardEntry (codes "rewards")
     (IsRewardHeading certificate.places (length certificate.entries)) (IsRewardLine certificate.places) text

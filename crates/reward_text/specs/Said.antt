@@ -1,6 +1,7 @@
 -- The text of a certificate of rewards for this many states says its places and an entry for each state, or has a first
 -- fault.
-use Rattle.std.specs.Prelude.{ℕ, ◌+◌, ◌==◌, nat_le, bytes_eq, Bool, true, false, List, [], ◌∷◌, Option, Some, None, codes}
+use Rattle.std.specs.Prelude.{ℕ, ◌+◌, ◌==◌, nat_le, bytes_eq, Bool, true, false, List, [], ◌∷◌, Option, Some, None}
+use Rattle.std.specs.Prelude.{codes}
 use Rattle.std.specs.Prelude.{if◌then◌else◌, Result, Ok, Err}
 use Rattle.text_lines.specs.Text.{lines_of, fields_of, number_of, significant}
 use Rattle.plan_text.specs.declared.fault.PlanFault.{PlanFault}

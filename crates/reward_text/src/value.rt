@@ -9,8 +9,8 @@ use game_model::UNIT;
 use reward_values::units_of_one;
 use text_lines::whole;
 
-/// Reads a value of so many places: a number of units, or the word `infinite`. A number that is too great for 64 bits is
-/// the greatest one of 64 bits.
+/// Reads a value of so many places: a number of units, or the word `infinite`. A number that is too great for 64 bits
+/// is the greatest one of 64 bits.
 pub fn value_in(places: u32, field: &[u8]) -> Option<Option<u64>>
     requires { places ≤ unit_digits }
     ensures { result ≡ option_map (option_map saturated) (value_in places field.now) }

@@ -39,8 +39,8 @@ returns-in_err-check_end-clause-said c =
     let at = c.loop-state.invariant in
     let before = entries_of c.loop-state.plan in
     let count = length-entries_of c.loop-state.plan c.loop-state.state at.lists in
-    let end = entries_from-end Entry (line_said c.args.version) c.args.states before (omega (arith, count)) c.loop-state.number
-    (lines_of c.loop-state.rest.now) in
+    let end = entries_from-end Entry (line_said c.args.version) c.args.states before (omega (arith, count))
+    c.loop-state.number (lines_of c.loop-state.rest.now) in
     let answer =
     err_from_is_err_and c.from_residual-in_err-check_end.result c.from_residual-in_err-check_end.ensures.1 in
     rw (answer.1, answer.2) (inr (sym at.said ∙ end ∙ ap (all_read before) (sym c.in_err-check_end.ensures)))
@@ -50,6 +50,6 @@ returns-clause-said c =
     let at = c.loop-state.invariant in
     let before = entries_of c.loop-state.plan in
     let count = length-entries_of c.loop-state.plan c.loop-state.state at.lists in
-    let end = entries_from-end Entry (line_said c.args.version) c.args.states before (omega (arith, count)) c.loop-state.number
-    (lines_of c.loop-state.rest.now) in
+    let end = entries_from-end Entry (line_said c.args.version) c.args.states before (omega (arith, count))
+    c.loop-state.number (lines_of c.loop-state.rest.now) in
     sym at.said ∙ end ∙ ap (all_read before) (sym c.in_ok-check_end.ensures)

@@ -1,0 +1,10 @@
+pub mod Asks
+pub mod Forms
+pub mod Loading
+pub mod Posed
+pub mod Questions
+pub mod Reach
+pub mod Said
+pub mod Seen
+pub mod Sources
+pub mod Texts
