@@ -15,6 +15,7 @@ use crate::fault::RewardAuditFault;
 use game_model::Question;
 use game_outside::OutOfMemory;
 use reward_check::check_rewards;
+use reward_text::laws::reward_certificates_are_what_is_read;
 use reward_text::{RewardPlan, read_reward_plan};
 use reward_units::{Rounding, rewards_in_units};
 use rewards_reader::RewardTable;
@@ -43,6 +44,8 @@ pub fn audit_rewards(
     ensures refused { IfErr result (λ fault. IsOutOfMemory fault
         ⊎ IsRefused question.now (exact_in question.now.game rewards.now) bytes.now fault) }
 {
+    // This call does nothing: it is a law.
+    reward_certificates_are_what_is_read();
     let plan = read_reward_plan(alloc, bytes, question.game().states())?;
     let audited = with_rewards(alloc, question, rewards, plan)?;
     check_rewards(&audited.tables(question))?;
