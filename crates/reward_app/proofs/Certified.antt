@@ -1,7 +1,6 @@
 -- The certificate of an audit, from its text, and that of a solver.
-use Rattle.std.proofs.Common.{◌≡◌, ◌≤◌, ◌++◌, ℕ, Bool, List, Option, Result, Ok, Err, arith}
+use Rattle.std.proofs.Common.{◌≡◌, ◌++◌, ℕ, Bool, List, Option, Result, Ok, Err, arith}
 use Rattle.std.proofs.Common.{refl}
-use Rattle.text_lines.specs.Limits.{most_bytes}
 use Rattle.fractions.specs.Fraction.{Fraction}
 use Rattle.game_outside.specs.Outside.{Holding}
 use Rattle.game_model.specs.Query.{Query}

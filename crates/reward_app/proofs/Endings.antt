@@ -8,8 +8,8 @@ use Rattle.output.specs.declared.refusal.Refusal.{Refusal}
 use Rattle.output.specs.declared.refusal.Refusal.TheVariants as shared
 use Rattle.output.specs.declared.refusal.Text.TheVariants.{Cert}
 use Rattle.output.specs.declared.status.Status.{Status}
-use Rattle.output.specs.declared.status.Status.TheVariants.{Fine, SomeFalse, SomeUndecided, ModelRefused}
-use Rattle.output.specs.declared.status.Status.TheVariants.{ReadFault, WriteFault, CertificateRefused}
+use Rattle.output.specs.declared.status.Status.TheVariants.{Fine, SomeFalse, SomeUndecided}
+use Rattle.output.specs.declared.status.Status.TheVariants.{ReadFault, WriteFault}
 use Rattle.output.specs.Status.{IsAnswer}
 use Rattle.reward_words.specs.Words.{RewardCommand, AreRewardCommand}
 use Rattle.reward_refusals.specs.declared.refusal.RewardRefusal.{RewardRefusal}

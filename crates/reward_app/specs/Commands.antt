@@ -1,9 +1,8 @@
 -- These definitions say what a command on rewards asks of its texts: its first refusal, or that a text is not held.
-use Rattle.std.specs.Prelude.{◌≡◌, ◌⊎◌, List, ℕ, Option, None}
+use Rattle.std.specs.Prelude.{◌≡◌, ◌⊎◌, Option, None}
 use Rattle.game_outside.specs.Outside.{Holding}
-use Rattle.command_words.specs.Words.{Asked}
 use Rattle.inputs.specs.Sources.{SourceWith, IfKnown}
-use Rattle.reward_words.specs.Words.{AuditReward, SolveReward, RewardCommand, OfAuditReward, OfSolveReward}
+use Rattle.reward_words.specs.Words.{AuditReward, RewardCommand, OfAuditReward, OfSolveReward}
 use Rattle.reward_refusals.specs.declared.refusal.RewardRefusal.{RewardRefusal}
 use Rattle.reward_inputs.specs.Posed.{RewardQuestion}
 use Rattle.reward_inputs.specs.Questions.{AsksIt, RefusesRewards, LacksRewards}

@@ -42,7 +42,15 @@ pub fn report_on(
     ensures answer { IfOk result (λ answer. IsAnswer answer.status) }
 {
     let tables = tables_of(question, made);
-    reward_report_of(alloc, &tables, rewards, made.plan.places, bound, how, initial)
+    reward_report_of(
+        alloc,
+        &tables,
+        rewards,
+        made.plan.places,
+        bound,
+        how,
+        initial,
+    )
 }
 
 // Borrows the lists of a certificate.

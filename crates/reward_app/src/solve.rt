@@ -46,7 +46,13 @@ pub fn solve_loaded(
         How::Solved,
         &made,
     )?;
-    append_certificate(alloc, &mut answer.text, solve.plan, &loaded.formula, &made.plan)?;
+    append_certificate(
+        alloc,
+        &mut answer.text,
+        solve.plan,
+        &loaded.formula,
+        &made.plan,
+    )?;
     Ok(answer)
 }
 

@@ -1,4 +1,4 @@
-use Rattle.std.proofs.Common.{Option, List, ℕ, Bool, subst, sym}
+use Rattle.std.proofs.Common.{Option, List, subst, sym}
 use Rattle.std.proofs.lemmas.Result.{err_from_is_err_and}
 use Rattle.game_outside.specs.Outside.{Holding}
 use Rattle.game_model.specs.Game.{Distribution}
