@@ -1,0 +1,5 @@
+pub mod Commands
+pub mod OfWords
+pub mod Reports
+pub mod Run
+pub mod inside
