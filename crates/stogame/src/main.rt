@@ -5,11 +5,13 @@
 #![tactic(auto)]
 
 use command_words::refused_words;
-use game_outside::OpenGate;
+use game_outside::{OpenGate, OutOfMemory};
+use reward_app::{Status, run};
+use reward_words::refused_reward_words;
+use std::alloc::Global;
 use std::process::ExitCode;
 use std::rt::Files;
 use std::{env, io};
-use stogame_app::{Status, run};
 use system_files::{Failure, FileShelf, OneLine, OutSink};
 
 /// The program ends with this status if the system hands over no words.
@@ -24,7 +26,7 @@ fn main(rt: HostRuntime) -> ExitCode {
     let Ok(words) = arguments.skip(1).collect::<Vec<String>>(alloc) else {
         return ExitCode::from(end_out_of_memory(&rt));
     };
-    let Ok(refused) = refused_words(alloc, &words) else {
+    let Ok(refused) = refused(alloc, &words) else {
         return ExitCode::from(end_out_of_memory(&rt));
     };
     let mut shelf = FileShelf::new(&rt, alloc);
@@ -38,6 +40,16 @@ fn main(rt: HostRuntime) -> ExitCode {
         _ => {}
     }
     ExitCode::from(status.number())
+}
+
+// Says what is wrong with words that are no command: as words with rewards if a file of rewards is asked for.
+fn refused(alloc: Global, words: &[String]) -> Result<Option<String>, OutOfMemory> {
+    let are_of_rewards = words.iter().any(|word| word.starts_with("--rewards"));
+    if are_of_rewards {
+        refused_reward_words(alloc, words)
+    } else {
+        refused_words(alloc, words)
+    }
 }
 
 // Ends a run whose words the system did not hand over.
