@@ -265,11 +265,14 @@ class Rewriter:
 
     def number(self):
         """A number, a constant or a fraction of whole numbers, exactly."""
-        value = Fraction(self.constant())
+        spelling = self.constant()
         if self.ahead("/"):
-            self.take("/")
-            value /= Fraction(self.constant())
-        return value
+            spelling += self.take("/") + self.constant()
+        try:
+            value, *divisor = map(Fraction, spelling.split("/"))
+            return value / divisor[0] if divisor else value
+        except (ValueError, ZeroDivisionError):
+            raise NoSpelling(f"{spelling} is no number") from None
 
     def constant(self):
         """The digits of a number or of a constant."""

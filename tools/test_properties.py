@@ -8,7 +8,7 @@ from toolbox.testing import EXAMPLES, SAMPLES, InFolder, call_tool, load, needs_
 
 DEFINED = {"bad": 'x>1 | "a"', "a": "x=7", "round": 'x=1 & "round"', "done": "(s=7) & done"}
 REWARDS = {"time": "time.rewards", "": "plain.rewards"}
-CHAIN = Surroundings({"N": "5", "p": "0.9"}, ["p0"], {"a", "s_eq_7_and_done"}, True, DEFINED, REWARDS)
+CHAIN = Surroundings({"N": "5", "p": "0.9", "T": "true"}, ["p0"], {"a", "s_eq_7_and_done"}, True, DEFINED, REWARDS)
 GAME = Surroundings({}, ["p1", "anna"], {"a"}, False)
 
 # a property of a Markov chain, and the formula here, marked where its True is False or its bounds are 1 less
@@ -82,6 +82,8 @@ REFUSED = [
     ('P=? [ F<=1.5 "a" ]', "3/2 is no number of steps"),
     ('P=? [ F<0 "a" ]', "-1 is no number of steps"),
     ('P>=1.5 [ F "a" ]', "3/2 is no probability"),
+    ('P>=1/0 [ F "a" ]', "1/0 is no number"),
+    ('R<=T/2 [ F "a" ]', "true/2 is no number"),
     ('P>=M [ F "a" ]', "the constant M has no value; give it by --const M=.."),
     ('P>=1 [ F Pmax=? [ F "a" ] ]', "only thresholds stand there"),
     ('A [ F "a" ]', "paths of probability 0 count"),
