@@ -1,5 +1,5 @@
 -- The rewards of a file have a common denominator, since each entry of their table is an amount.
-use Rattle.std.proofs.Common.{ℕ, ◌<◌, ◌≤◌, List, Option, Some, None, length, arith, subst, sym, inl, inr}
+use Rattle.std.proofs.Common.{ℕ, ◌≤◌, List, Option, Some, None, length, arith, subst, sym, inl, inr}
 use Rattle.std.specs.Prelude.{slice_index_or, unwrap_or}
 use Rattle.std.proofs.lemmas.Bool.{cases_lt}
 use Rattle.std.proofs.lemmas.List.{get_or_past}
