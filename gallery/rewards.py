@@ -1,31 +1,36 @@
 """What models of the gallery pay, and what is expected of it until a goal, as the literature has it.
 
 A family that pays has `rewards`: for its sizes, by the name of a structure, what is paid on the move from one state to
-the next, by the names of both. `gallery/write` writes a file for each structure. The program is not asked for these
-values yet: `gallery/test_rewards.py` compares those of small models with exact ones, and
-
-    python3 -m gallery.rewards
-
-all, of the largest models by value iteration in floating point (a minute). The values of `csma` are the benchmark set's
-`time_min` and `time_max`, computed here; they were not compared with printed ones.
+the next, by the names of both. `gallery/write` writes a file for each structure, and `gallery/run` asks the program for
+each row of the tables. The values of `csma` are the benchmark set's `time_min` and `time_max`, computed here; they were
+not compared with printed ones.
 """
 
 import importlib
-import sys
+import re
 from collections import namedtuple
 from fractions import Fraction
 
 from gallery.families import agrees
 from toolbox.exact import Problem
-from toolbox.expected import expected_values, plain_expected, turns_paid
-from toolbox.model import CLOSED, COMPUTED, ask
-from toolbox.rewards import Rewards, text_of
+from toolbox.expected import plain_expected, turns_paid, values_and_strategy, values_of_pair
+from toolbox.formulas import TRUE, Spelt
+from toolbox.model import CLOSED, COMPUTED, side
+from toolbox.reward_formulas import RewardFormula
+from toolbox.rewards import INFINITE, Rewards, text_of
 
+DIFFERENCE = 1e-11
 FIRST, WORST = "the first state", "the state of the greatest value"
 CONSENSUS = "PRISM's case study of randomised consensus"
 
-Expected = namedtuple("Expected", "family sizes structure bound goal value source state", defaults=(FIRST,))
-Expected.__doc__ = "A value, as a whole number, a fraction or in decimals, and of which state it is."
+Expected = namedtuple(
+    "Expected", "family sizes structure bound goal value source state coalition", defaults=(FIRST, None)
+)
+Expected.__doc__ = """A value, as a whole number, a fraction or in decimals, or infinite; of which state it is, and who is
+the coalition."""
+Worked = namedtuple("Worked", "state value turns is_right")
+Worked.__doc__ = """The state whose value a row has, the value, how many turns the game is expected to last there, and
+whether the value is the row's."""
 
 EXPECTED = (
     Expected("die", (6,), "tosses", "Rmax=?", "done", "11/3", "Knuth and Yao 1976"),
@@ -69,20 +74,45 @@ DENSE = (
     Expected("herman", (9,), "steps", "Rmax=?", "stable", "12.0000", "McIver and Morgan 2005", WORST),
     Expected("herman", (11,), "steps", "Rmax=?", "stable", "17.4545", "McIver and Morgan 2005", WORST),
 )
-DIFFERENCE = 1e-11
+ROWS = {"small": EXPECTED, "large": LARGE + DENSE}
+
+
+def name_of(row):
+    return "-".join(map(str, (row.family, *row.sizes))).replace("/", "_")
+
+
+def question_of(row):
+    """The formula of a row, which names the structure."""
+    found = re.fullmatch("R([<>]=?)(.*)", row.bound)
+    sign, limit = (found[1], Spelt(found[2])) if found else (row.bound[: -len("=?")], None)
+    return RewardFormula(row.coalition, sign, limit, "U", TRUE, side(row.goal), name=row.structure)
 
 
 def paying(row):
-    """The problem and the rewards of a row of the table."""
+    """The model, the problem and the rewards of a row of the table."""
     family = importlib.import_module(f"gallery.families.{row.family}")
     model = family.model(*row.sizes)
-    problem = Problem(model, ask(row.bound.replace("R", "P"), row.goal))
-    return problem, rewards_of(model, family.rewards(*row.sizes)[row.structure])
+    return model, Problem(model, question_of(row)), rewards_of(model, family.rewards(*row.sizes)[row.structure])
+
+
+def known_of(row, problem, rewards):
+    """What is known of a row, worked out anew: in fractions, or in floating point where the model is too large."""
+    paid = turns_paid(rewards)
+    if row in DENSE:
+        values = plain_expected(problem, paid, DIFFERENCE)
+        state = values.index(max(values))
+        return Worked(state, values[state], values[state], is_right(row, values))
+    values, strategy = values_and_strategy(problem, paid)
+    state = 0 if row.state == FIRST else values.index(max(values))
+    turns = values_of_pair(problem, [[1] * len(choices) for choices in paid], strategy)[state]
+    return Worked(state, values[state], turns, is_right(row, values))
 
 
 def is_right(row, values):
     """Whether these are the values of a model of which a row has one, to its last digit."""
     found = values[0] if row.state == FIRST else max(values)
+    if INFINITE in (found, row.value):
+        return found == row.value
     return agrees(found, row.value) if "." in row.value else found == Fraction(row.value)
 
 
@@ -102,22 +132,3 @@ def texts(model, family, sizes):
     """The text for each structure of a model, by its name."""
     found = family.rewards(*sizes) if hasattr(family, "rewards") else {}
     return {structure: text_of(rewards_of(model, pays)) for structure, pays in found.items()}
-
-
-def main():
-    """Prints each row with the value that was found, and says whether all are right."""
-    faults = 0
-    for row in EXPECTED + LARGE + DENSE:
-        problem, rewards = paying(row)
-        paid = turns_paid(rewards)
-        values = plain_expected(problem, paid, DIFFERENCE) if row in DENSE else expected_values(problem, paid)
-        found, right = values[0] if row.state == FIRST else max(values), is_right(row, values)
-        faults += not right
-        name, wrong = "-".join(map(str, (row.family, *row.sizes))), "" if right else "  WRONG"
-        cells = f"{name:20} {row.structure:7} {row.bound} {row.value:10} {float(found):14.8f}"
-        print(f"{cells}  {row.source}{wrong}", flush=True)
-    return 1 if faults else 0
-
-
-if __name__ == "__main__":
-    sys.exit(main())

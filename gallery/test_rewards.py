@@ -13,7 +13,7 @@ class Known(unittest.TestCase):
     def test_known_values(self):
         for row in EXPECTED:
             with self.subTest(row):
-                problem, rewards = paying(row)
+                _, problem, rewards = paying(row)
                 self.assertTrue(is_right(row, expected_values(problem, turns_paid(rewards))))
 
     def test_what_is_right(self):
@@ -27,7 +27,7 @@ class Known(unittest.TestCase):
     def test_the_cost_of_an_address(self):
         """The source's formula, of four probes and addresses of which 1000 in 65024 are used."""
         model, pays = zeroconf.model(4, 1000), zeroconf.rewards(4, 1000)["cost"]
-        problem, _ = paying(next(row for row in EXPECTED if row.family == "zeroconf"))
+        _, problem, _ = paying(next(row for row in EXPECTED if row.family == "zeroconf"))
         cost = expected_values(problem, turns_paid(rewards_of(model, pays)))[0]
         self.assertEqual(cost, zeroconf.cost(4, Fraction(1000, 65024)))
 
@@ -39,6 +39,6 @@ class Texts(unittest.TestCase):
 
     def test_texts_are_read(self):
         for row in EXPECTED:
-            problem, rewards = paying(row)
+            _, problem, rewards = paying(row)
             text = text_of(rewards).encode("ascii")
             self.assertEqual(read_rewards(text, list(map(len, problem.choices))), rewards)
