@@ -10,7 +10,7 @@ import time
 from dataclasses import dataclass, field
 from fractions import Fraction
 
-from gallery.rewards import DENSE, ROWS, known_of, name_of, paying, question_of
+from gallery.rewards import DENSE, FIRST, ROWS, known_of, name_of, paying, question_of
 from gallery.solved import bounds_of, faults_of_bounds, faults_of_plan
 from gallery.table import COLUMNS, joined, marks_of, row, shown, solved_key_of
 from toolbox.programs import asked, bracket_of, failures, verdict_of
@@ -101,7 +101,8 @@ def table_of(answers):
 
 def markdown(answer, mark):
     """The row of an answer; where it would be too long a row of the question stands above it."""
-    asked_of = name_of(answer.row), f"`{question_of(answer.row).formula()}`"
+    of_state = "" if answer.row.state == FIRST else f", of {answer.row.state}"
+    asked_of = name_of(answer.row), f"`{question_of(answer.row).formula()}`{of_state}"
     cells = f"{shown(answer.value)} {mark}", joined(bracket_of(answer.line)), verdict_of(answer.line)
     whole = row(*asked_of, *cells)
     return whole if len(whole) <= COLUMNS + 1 else row(*asked_of, "", "", "") + row("", "", *cells)

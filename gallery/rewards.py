@@ -12,6 +12,7 @@ from collections import namedtuple
 from fractions import Fraction
 
 from gallery.families import agrees
+from gallery.families.truel import MOSTELLER
 from toolbox.exact import Problem
 from toolbox.expected import plain_expected, turns_paid, values_and_strategy, values_of_pair
 from toolbox.formulas import TRUE, Spelt
@@ -22,6 +23,7 @@ from toolbox.rewards import INFINITE, Rewards, text_of
 DIFFERENCE = 1e-11
 FIRST, WORST = "the first state", "the state of the greatest value"
 CONSENSUS = "PRISM's case study of randomised consensus"
+BOHNENKAMP, MCIVER, FELLER = "Bohnenkamp and others 2003", "McIver and Morgan 2005", "Feller 1950"
 
 Expected = namedtuple(
     "Expected", "family sizes structure bound goal value source state coalition", defaults=(FIRST, None)
@@ -32,38 +34,104 @@ Worked = namedtuple("Worked", "state value turns is_right")
 Worked.__doc__ = """The state whose value a row has, the value, how many turns the game is expected to last there, and
 whether the value is the row's."""
 
+
+def either(first, second):
+    """The states with one of two labels."""
+    return ("|", ("label", first), ("label", second))
+
+
+CHASED, DRIVEN = either("caught", "out"), either("home", "accident")
+
 EXPECTED = (
     Expected("die", (6,), "tosses", "Rmax=?", "done", "11/3", "Knuth and Yao 1976"),
+    Expected("die", (6,), "tosses", "Rmin=?", "done", "11/3", "Knuth and Yao 1976"),
+    Expected("die", (6,), "tosses", "R<=11/3", "done", "11/3", "Knuth and Yao 1976"),
+    Expected("die", (6,), "tosses", "R<3.67", "done", "11/3", "Knuth and Yao 1976"),
+    Expected("die", (6,), "tosses", "R>3.67", "done", "11/3", "Knuth and Yao 1976"),
+    Expected("die", (6,), "tosses", "Rmin=?", "one", INFINITE, CLOSED),
+    Expected("die", (6,), "tosses", "R>=1000000", "one", INFINITE, CLOSED),
     Expected("die", (8,), "tosses", "Rmin=?", "done", "3", CLOSED),
+    Expected("die", (8,), "tosses", "R<=3", "done", "3", CLOSED),
+    Expected("die", (8,), "tosses", "R<3", "done", "3", CLOSED),
     Expected("die", (11,), "tosses", "Rmax=?", "done", "160/33", CLOSED),
-    Expected("chain", (3,), "steps", "Rmax=?", "end", "10", CLOSED),
-    Expected("chain", (10,), "steps", "Rmin=?", "end", "1534", CLOSED),
-    Expected("chain", (20, "0.7"), "steps", "Rmax=?", "end", "1572862", CLOSED),
-    Expected("coin", (2, 2), "steps", "Rmax=?", "finished", "75", CONSENSUS),
-    Expected("coin", (2, 2), "steps", "Rmin=?", "finished", "48", CONSENSUS),
-    Expected("coin", (2, 4), "steps", "Rmax=?", "finished", "243", COMPUTED),
-    Expected("coin", (2, 4), "steps", "Rmin=?", "finished", "192", COMPUTED),
     Expected("ring", (3,), "steps", "Rmax=?", "stable", "3", CLOSED),
     Expected("ring", (7,), "steps", "Rmax=?", "stable", "21", CLOSED),
     Expected("ring", (7,), "steps", "Rmin=?", "stable", "21", CLOSED),
+    Expected("ring", (7,), "steps", "R<22", "stable", "21", CLOSED),
+    Expected("ring", (9,), "steps", "Rmax=?", "stable", "36", CLOSED),
     Expected("ring", (9,), "steps", "Rmin=?", "stable", "36", CLOSED),
-    Expected("herman", (3,), "steps", "Rmax=?", "stable", "4/3", "McIver and Morgan 2005"),
-    Expected("herman", (5,), "steps", "Rmax=?", "stable", "16/5", "McIver and Morgan 2005", WORST),
-    Expected("herman", (7,), "steps", "Rmax=?", "stable", "48/7", "McIver and Morgan 2005", WORST),
+    Expected("coin", (2, 2), "steps", "Rmax=?", "finished", "75", CONSENSUS),
+    Expected("coin", (2, 2), "steps", "Rmin=?", "finished", "48", CONSENSUS),
+    Expected("coin", (2, 2), "steps", "R<=75", "finished", "75", CONSENSUS),
+    Expected("coin", (2, 2), "steps", "R<75", "finished", "75", CONSENSUS),
+    Expected("coin", (2, 2), "steps", "R>=48", "finished", "48", CONSENSUS),
+    Expected("coin", (2, 4), "steps", "Rmax=?", "finished", "243", COMPUTED),
+    Expected("coin", (2, 4), "steps", "Rmin=?", "finished", "192", COMPUTED),
+    Expected("philosophers", (3, 1), "moves", "Rmax=?", "eats", "27/2", COMPUTED),
+    Expected("philosophers", (3, 1), "moves", "Rmin=?", "eats", "3", CLOSED),
+    Expected("philosophers", (4, 1), "moves", "Rmax=?", "eats", "22", COMPUTED),
+    Expected("philosophers", (3, 0), "moves", "Rmin=?", "eats", "3", CLOSED),
+    Expected("philosophers", (3, 0), "moves", "Rmax=?", "eats", INFINITE, CLOSED),
+    Expected("philosophers", (3, 0), "moves", "R<=1000000", "eats", INFINITE, CLOSED),
+    Expected("zeroconf", (4, 1000), "cost", "Rmax=?", "settled", "23.657318", BOHNENKAMP),
+    Expected("zeroconf", (4, 1000), "cost", "R<=24", "settled", "23.657318", BOHNENKAMP),
+    Expected("zeroconf", (2, 32512), "cost", "Rmax=?", "settled", "1001705/101", BOHNENKAMP),
+    Expected("zeroconf", (8, 60000), "cost", "Rmin=?", "settled", "2941613315/25120003", BOHNENKAMP),
+    Expected("retransmission", (16, 2), "tries", "Rmax=?", either("done", "given_up"), "16.4877359592", CLOSED),
+    Expected("retransmission", (64, 5), "tries", "Rmax=?", either("done", "given_up"), "65.9657787500", CLOSED),
+    Expected("crowds", (5, 1, 0), "paths", "Rmax=?", "twice", "80/11", CLOSED),
+    Expected("crowds", (6, 1, 0), "paths", "Rmin=?", "twice", "9", CLOSED),
+    Expected("robot", (4, 1), "moves", "Rmin=?", "goal", "827335/6489", COMPUTED),
+    Expected("robot", (4, 1), "moves", "Rmax=?", "goal", INFINITE, COMPUTED),
+    Expected("robot", (6, 2), "moves", "Rmin=?", either("goal", "pit"), "3.6263222887", COMPUTED),
+    Expected("chain", (3,), "steps", "Rmax=?", "end", "10", CLOSED),
+    Expected("chain", (3,), "steps", "Rmax=?", "goal", INFINITE, CLOSED),
+    Expected("chain", (10,), "steps", "Rmin=?", "end", "1534", CLOSED),
+    Expected("chain", (20, "0.7"), "steps", "Rmax=?", "end", "1572862", CLOSED),
+    Expected("chain", (20, "0.7"), "steps", "R<=1572861", "end", "1572862", CLOSED),
+    Expected("wind", (4, 1), "moves", "Rmin=?", either("goal", "pit"), "640/243", COMPUTED, coalition=("robot",)),
+    Expected("wind", (4, 1), "moves", "Rmax=?", either("goal", "pit"), "152", COMPUTED, coalition=("robot",)),
+    Expected("stall", (1,), "tosses", "Rmax=?", either("won", "lost"), "1", FELLER, coalition=("max",)),
+    Expected("stall", (8,), "tosses", "Rmax=?", either("won", "lost"), "64", FELLER, coalition=("max",)),
+    Expected("stall", (8,), "tosses", "Rmin=?", either("won", "lost"), "64", FELLER, coalition=("max",)),
+    Expected("stall", (8,), "tosses", "Rmin=?", either("won", "lost"), "0", CLOSED, coalition=("max", "min")),
+    Expected("stall", (8,), "tosses", "Rmax=?", either("won", "lost"), INFINITE, CLOSED, coalition=("max", "min")),
+    Expected("stall", (40,), "tosses", "R>=1600", either("won", "lost"), "1600", FELLER, coalition=("max",)),
+    Expected("truel", MOSTELLER, "turns", "Rmin=?", "a_wins", "23/3", CLOSED, coalition=("a", "b")),
+    Expected("truel", MOSTELLER, "turns", "Rmin=?", "a_or_c_wins", INFINITE, CLOSED, coalition=("a", "c")),
+    Expected("brp", (16, 2), "tries", "Rmax=?", either("settled", "error"), "16.4877359592", CLOSED),
+    Expected("herman", (3,), "steps", "Rmax=?", "stable", "4/3", MCIVER),
+    Expected("herman", (5,), "steps", "Rmax=?", "stable", "16/5", MCIVER, WORST),
+    Expected("herman", (5,), "steps", "R<=100/27", "stable", "16/5", MCIVER, WORST),
     Expected("herman", (5,), "steps", "Rmin=?", "stable", "44/15", COMPUTED),
+    Expected("herman", (7,), "steps", "Rmax=?", "stable", "48/7", MCIVER, WORST),
+    Expected("herman", (7,), "steps", "R<=196/27", "stable", "48/7", MCIVER, WORST),
     Expected("leader", (3, 2), "rounds", "Rmax=?", "elected", "4/3", CLOSED),
     Expected("leader", (3, 4), "rounds", "Rmax=?", "elected", "16/15", CLOSED),
     Expected("leader", (4, 2), "rounds", "Rmin=?", "elected", "2", CLOSED),
-    Expected("zeroconf", (4, 1000), "cost", "Rmax=?", "settled", "23.657318", "Bohnenkamp and others 2003"),
-    Expected("firewire_abst", (3, 0), "time", "Rmax=?", "elected", "299", CLOSED),
-    Expected("firewire_abst", (3, 0), "time", "Rmin=?", "elected", "541/4", CLOSED),
-    Expected("firewire_abst", (36, 0), "time", "Rmax=?", "elected", "365", CLOSED),
-    Expected("firewire_abst", (36, 0), "time", "Rmin=?", "elected", "409/4", CLOSED),
     Expected("csma", (2, 2), "time", "Rmin=?", "all_heard", "66.99932", COMPUTED),
     Expected("csma", (2, 2), "time", "Rmax=?", "all_heard", "70.66576", COMPUTED),
+    Expected("csma", (2, 2), "time", "R<=70", "all_heard", "70.66576", COMPUTED),
+    Expected("firewire_abst", (3, 0), "time", "Rmax=?", "elected", "299", CLOSED),
+    Expected("firewire_abst", (3, 0), "time", "Rmin=?", "elected", "541/4", CLOSED),
+    Expected("firewire_abst", (3, 0), "time", "R<300", "elected", "299", CLOSED),
+    Expected("firewire_abst", (36, 0), "time", "Rmax=?", "elected", "365", CLOSED),
+    Expected("firewire_abst", (36, 0), "time", "Rmin=?", "elected", "409/4", CLOSED),
+    Expected("dice", (1,), "points", "Rmax=?", "over", "13/2", CLOSED, coalition=("a",)),
+    Expected("dice", (4,), "points", "Rmax=?", "over", "26", CLOSED, coalition=("a",)),
+    Expected("dice", (4,), "points", "Rmax=?", "over", "28", CLOSED, coalition=("a", "b")),
+    Expected("dice", (4,), "points", "R>=26", "over", "26", CLOSED, coalition=("a",)),
+    Expected("observer", (2, 1), "moves", "Rmax=?", CHASED, "380/119", COMPUTED, coalition=("intruder",)),
+    Expected("observer", (3, 1), "moves", "Rmin=?", CHASED, "1054390/344619", COMPUTED, coalition=("intruder",)),
+    Expected("hallway", (1, 4), "moves", "Rmin=?", "found", "2.7637257292", COMPUTED, coalition=("robot",)),
+    Expected("charlton", (1,), "roads", "Rmin=?", DRIVEN, "4999/2500", COMPUTED, coalition=("car",)),
+    Expected("charlton", (3,), "roads", "Rmax=?", DRIVEN, "1000", COMPUTED, coalition=("car",)),
 )
 
 LARGE = (
+    Expected("chain", (17,), "steps", "Rmax=?", "end", "196606", CLOSED),
+    Expected("stall", (200,), "tosses", "Rmax=?", either("won", "lost"), "40000", FELLER, coalition=("max",)),
+    Expected("dice", (20,), "points", "Rmax=?", "over", "130", CLOSED, coalition=("a",)),
     Expected("coin", (2, 16), "steps", "Rmax=?", "finished", "3267", COMPUTED),
     Expected("coin", (2, 16), "steps", "Rmin=?", "finished", "3072", COMPUTED),
     Expected("csma", (2, 4), "time", "Rmin=?", "all_heard", "75.65078", COMPUTED),
@@ -71,8 +139,8 @@ LARGE = (
 )
 # too large for fractions
 DENSE = (
-    Expected("herman", (9,), "steps", "Rmax=?", "stable", "12.0000", "McIver and Morgan 2005", WORST),
-    Expected("herman", (11,), "steps", "Rmax=?", "stable", "17.4545", "McIver and Morgan 2005", WORST),
+    Expected("herman", (9,), "steps", "Rmax=?", "stable", "12.0000", MCIVER, WORST),
+    Expected("herman", (11,), "steps", "Rmax=?", "stable", "17.4545", MCIVER, WORST),
 )
 ROWS = {"small": EXPECTED, "large": LARGE + DENSE}
 

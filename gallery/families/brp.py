@@ -176,5 +176,10 @@ def questions(frames, retries):
     yield sure("P>=1", "settled", value=1, source=CLOSED)
 
 
+def rewards(*_):
+    """A frame that is given to its channel."""
+    return {"tries": lambda state, after: state.frames == IDLE and after.frames != IDLE}
+
+
 def known_as(frames, retries):
     return same_or_size("`brp`", (frames, retries), COUNTS, "`p1`, `p2`, `p4`")

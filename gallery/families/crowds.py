@@ -76,3 +76,7 @@ def questions(members, collaborators, paths):
     yield ask("Pmax=?", "sender_seen", first, CLOSED, safe="!other_seen")
     yield ask("Pmax=?", "twice", twice, CLOSED)
     yield ask("P<0.1", "twice", twice, CLOSED)
+
+
+def rewards(*_):
+    return {"paths": lambda state, after: state[1] == "begin"}

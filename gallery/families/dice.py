@@ -51,3 +51,7 @@ def questions(throws):
     yield ask("Pmax=?", "!b_wins", coalition=("a",), path="G")
     yield ask("P>=0.5", "b_wins", coalition=("b",))
     yield sure("P>=1", "over", value=1, source=CLOSED)
+
+
+def rewards(_):
+    return {"points": lambda state, after: abs(after[1] - state[1])}

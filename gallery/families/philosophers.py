@@ -60,5 +60,9 @@ def questions(philosophers, coins):
     yield sure("Pmin=?", "eats", value=coins, source=CLOSED)
 
 
+def rewards(*_):
+    return {"moves": lambda state, after: state != "eats"}
+
+
 def known_as(philosophers, coins):
     return Known(f"`philosophers-mdp` {philosophers}", kind=OTHER) if coins else Known()

@@ -60,5 +60,9 @@ def questions(frames, retries):
     yield ask("P>=0.9999", "!given_up", 1 - failed, CLOSED, path="G")
 
 
+def rewards(*_):
+    return {"tries": lambda state, after: state not in ("done", "given up") and state[2] == "frame"}
+
+
 def known_as(frames, retries):
     return Known(f"`brp` {frames}-{retries}: `p1`", kind=ENCODING)

@@ -61,3 +61,7 @@ def questions(stake):
     yield ask("P>=0.5", "won", HALF, CLOSED, coalition=("max",), options=rounds)
     for bound, tosses in (("Pmax=?", stake**2), ("P>0.6", 4 * stake**2)):
         yield ask(bound, "won", won_within(stake, tosses), CLOSED, coalition=("max",), steps=tosses + 1)
+
+
+def rewards(stake):
+    return {"tosses": lambda state, after: isinstance(state, int) and 0 < state < 2 * stake}

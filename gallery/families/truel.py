@@ -95,3 +95,8 @@ def questions_of_turns(known):
         yield ask("Pmax=?", ahead, *answer, coalition=tuple(coalition))
     answer = (Fraction(17, 20), CLOSED) if known else (None, COMPUTED)
     yield ask("Pmax=?", ("!", ahead), *answer, coalition=("b", "c"), path="G")
+
+
+def rewards(*_):
+    """A turn, of one who shoots into the air too."""
+    return {"turns": lambda state, after: len(state[0]) > 1}
