@@ -10,6 +10,7 @@ import time
 from dataclasses import dataclass, field
 from fractions import Fraction
 
+from gallery.families import agrees
 from gallery.rewards import DENSE, FIRST, ROWS, known_of, name_of, paying, question_of
 from gallery.solved import bounds_of, faults_of_bounds, faults_of_plan
 from gallery.table import COLUMNS, joined, marks_of, row, shown, solved_key_of
@@ -76,8 +77,8 @@ def faults_of_report(lines, one, known):
     if len(lines) != 1 or not bracket_of(lines[0]) or lines[0].split()[6:-1] != ["solved"]:
         return ["there is no bracket of one initial state"]
     if one in DENSE:
-        is_near = all(abs(bound - known.value) < 1e-4 for bound in bounds_of(lines[0]))
-        return [] if is_near else ["the bounds are not those of the source"]
+        is_near = all(agrees(bound, one.value) for bound in bounds_of(lines[0]))
+        return [] if is_near else ["a bound is not what the source has"]
     return faults_of_bounds(lines[0], question_of(one), known.value) + faults_of_width(lines[0], known)
 
 

@@ -32,7 +32,7 @@ Expected.__doc__ = """A value, as a whole number, a fraction or in decimals, or 
 the coalition."""
 Worked = namedtuple("Worked", "state value turns is_right")
 Worked.__doc__ = """The state whose value a row has, the value, how many turns the game is expected to last there, and
-whether the value is the row's."""
+whether the value is the row's. In floating point the value is the source's, and each turn pays 1."""
 
 
 def either(first, second):
@@ -169,7 +169,7 @@ def known_of(row, problem, rewards):
     if row in DENSE:
         values = plain_expected(problem, paid, DIFFERENCE)
         state = values.index(max(values))
-        return Worked(state, values[state], values[state], is_right(row, values))
+        return Worked(state, Fraction(row.value), values[state], is_right(row, values))
     values, strategy = values_and_strategy(problem, paid)
     state = 0 if row.state == FIRST else values.index(max(values))
     turns = values_of_pair(problem, [[1] * len(choices) for choices in paid], strategy)[state]

@@ -16,6 +16,8 @@ again, and each toss falls either way. There nobody tosses but between a left ne
 who drew left, since else a draw leaves two neighbours of whom the first to reach for the fork between them eats. But
 then, going round, somewhere one who drew left sits beside one who drew right, with the same end. Without coins 0: all
 hold their left forks, and one after the other fails and takes it again.
+
+Expected moves: 3 at least, where one philosopher moves alone. At most infinitely many without coins.
 """
 
 
