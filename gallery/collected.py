@@ -33,9 +33,13 @@ class Collected:
     def key(self):
         return key_of_row(self.row)
 
+    def shown(self):
+        """The value; what the source has of it where it was not worked out in fractions."""
+        return self.row.value if self.row in DENSE else shown(self.value)
+
     def printed(self):
         """A line of the table, and one for each fault."""
-        cells = f"{name_of(self.row):<23} {question_of(self.row).formula():<57} {shown(self.value):<22}"
+        cells = f"{name_of(self.row):<23} {question_of(self.row).formula():<57} {self.shown():<22}"
         ends = f" {' '.join(bracket_of(self.line)):<35} {verdict_of(self.line):<14} {self.seconds:6.2f} s"
         return "\n".join([cells + ends] + [f"    {fault}" for fault in self.faults])
 
@@ -104,6 +108,6 @@ def markdown(answer, mark):
     """The row of an answer; where it would be too long a row of the question stands above it."""
     of_state = "" if answer.row.state == FIRST else f", of {answer.row.state}"
     asked_of = name_of(answer.row), f"`{question_of(answer.row).formula()}`{of_state}"
-    cells = f"{shown(answer.value)} {mark}", joined(bracket_of(answer.line)), verdict_of(answer.line)
+    cells = f"{answer.shown()} {mark}", joined(bracket_of(answer.line)), verdict_of(answer.line)
     whole = row(*asked_of, *cells)
     return whole if len(whole) <= COLUMNS + 1 else row(*asked_of, "", "", "") + row("", "", *cells)

@@ -129,13 +129,21 @@ EXPECTED = (
 )
 
 LARGE = (
-    Expected("chain", (17,), "steps", "Rmax=?", "end", "196606", CLOSED),
-    Expected("stall", (200,), "tosses", "Rmax=?", either("won", "lost"), "40000", FELLER, coalition=("max",)),
-    Expected("dice", (20,), "points", "Rmax=?", "over", "130", CLOSED, coalition=("a",)),
+    Expected("ring", (14,), "steps", "Rmin=?", "stable", "91", CLOSED),
     Expected("coin", (2, 16), "steps", "Rmax=?", "finished", "3267", COMPUTED),
     Expected("coin", (2, 16), "steps", "Rmin=?", "finished", "3072", COMPUTED),
+    Expected("robot", (16, 3), "moves", "Rmin=?", either("goal", "pit"), "4.8240960656", COMPUTED),
+    Expected("chain", (17,), "steps", "Rmax=?", "end", "196606", CLOSED),
+    Expected("wind", (12, 3), "moves", "Rmin=?", either("goal", "pit"), "27370/6561", COMPUTED, coalition=("robot",)),
+    Expected("stall", (200,), "tosses", "Rmax=?", either("won", "lost"), "40000", FELLER, coalition=("max",)),
+    Expected("brp", (64, 5), "tries", "Rmax=?", either("settled", "error"), "65.9657787500", CLOSED),
+    Expected("leader", (4, 8), "rounds", "Rmax=?", "elected", "256/245", CLOSED),
     Expected("csma", (2, 4), "time", "Rmin=?", "all_heard", "75.65078", COMPUTED),
     Expected("csma", (2, 4), "time", "Rmax=?", "all_heard", "78.97127", COMPUTED),
+    Expected("dice", (20,), "points", "Rmax=?", "over", "130", CLOSED, coalition=("a",)),
+    Expected("observer", (4, 2), "moves", "Rmin=?", CHASED, "20/3", COMPUTED, coalition=("intruder",)),
+    Expected("hallway", (3, 4), "moves", "Rmin=?", "found", "7.1721852000", COMPUTED, coalition=("robot",)),
+    Expected("charlton", (12,), "roads", "Rmin=?", DRIVEN, "12.9688457142", COMPUTED, coalition=("car",)),
 )
 # too large for fractions
 DENSE = (
