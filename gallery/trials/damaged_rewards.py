@@ -12,7 +12,7 @@ from texts import Refusal
 from toolbox.expected import expected_values, turns_paid
 from toolbox.reward_certificates import certificate_of, certificate_text
 
-COUNT = 250
+COUNT = 400
 ODD = (
     *("infinite", "infinit", "0.0", "1.0", "01.0", "00", "15", "16", "rewards", "certificate", "0 0", "0 1 1", "0\n"),
     *("1e15", "1e16", "1000000000000000", "1000000000000001", "1000000000000000.1", "8000000", "8000001", "16383"),

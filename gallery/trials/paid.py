@@ -81,7 +81,8 @@ def spelt_rewards(draw, rewards):
 def values_of(problem, paid):
     """The value of each state, over all pairs of strategies without memory: the best least is the least best."""
     mine, theirs = strategies_of(problem, True), strategies_of(problem, False)
-    table = [[values_of_pair(problem, paid, list(map(sum, zip(*pair)))) for pair in product([one], theirs)] for one in mine]
+    pairs = [[list(map(sum, zip(one, other))) for other in theirs] for one in mine]
+    table = [[values_of_pair(problem, paid, pair) for pair in row] for row in pairs]
     best_least = [max(column) for column in zip(*([min(state) for state in zip(*row)] for row in table))]
     least_best = [min(column) for column in zip(*([max(state) for state in zip(*column)] for column in zip(*table)))]
     if best_least != least_best:

@@ -13,9 +13,8 @@ from texts import Refusal
 from toolbox.certificates import decimal
 from toolbox.expected import expected_values, turns_paid
 from toolbox.reward_certificates import MOST_UNITS, certificate_of, certificate_text
-from toolbox.rewards import INFINITE
 
-COUNT, CHANGES = 25, 20
+COUNT, CHANGES = 40, 20
 SHIFTS = (1, 1, -1, -1, 2, -2, 7, -1_000, 10**6, 10**14, -MOST_UNITS)
 VALUES = ("infinite", "infinite", 0, 1, MOST_UNITS, MOST_UNITS + 1)
 CHOICES = (*("-", "0", "1") * 5, "2", "16383", "16384")
@@ -88,9 +87,9 @@ def wrong_claims(question, tables, values):
     granted = expected_values(*played(problem, paid, False, tables.replies))
     wrong = []
     for state, value in enumerate(values):
-        ladder = [tables.lower[state], *(unit * one for one in (got[state], value, granted[state])), tables.upper[state]]
-        is_endless = tables.lower[state] == INFINITE and value < INFINITE
-        wrong += [state] if ladder != sorted(ladder) or is_endless else []
+        inner = [unit * one for one in (got[state], value, granted[state])]
+        ladder = [tables.lower[state], *inner, tables.upper[state]]
+        wrong += [state] if ladder != sorted(ladder) else []
     return [f"what is said of state {state} is wrong" for state in wrong]
 
 

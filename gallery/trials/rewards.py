@@ -11,7 +11,7 @@ from texts import Refusal
 from toolbox.rewards import INFINITE
 from toolbox.testing import call_tool
 
-COUNT, QUESTIONS, MANY = 60, 4, 10
+COUNT, QUESTIONS, MANY = 80, 4, 10
 PAID = ("--rewards", "m.rewards")
 
 
