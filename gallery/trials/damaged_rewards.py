@@ -18,6 +18,7 @@ ODD = (
     *("1e15", "1e16", "1000000000000000", "1000000000000001", "1000000000000000.1", "8000000", "8000001", "16383"),
     *("Rmax", "Rmin", "R", "R>=1/3", 'R{"x"}', "{", "}", "max=?", "Pmax=?", "P<=0.5", "C", "G", "X", "1e-24", "0.5"),
 )
+LINES = ("", "x", "0", "0 0 0 0", "0 x 1", "99 0", "0 99 1", "0 -1", "0 0 1/0", "0 1e16", "0 0 1", "0 1")
 
 
 def trial(draw, room):
@@ -29,12 +30,22 @@ def trial(draw, room):
     if command == "audit":
         right = posed(texts)
         texts["certificate"] = certificate_text(certificate_of(right.problem, right.rewards, draw.choice((0, 1, 3))))
+    if draw.random() < 0.3:
+        texts["rewards"] = with_a_line(draw, texts["rewards"])
     for _ in range(draw.choice((0, 1, 1, 1, 2))):
         name = draw.choice(("rewards", "rewards", "formula", list(texts)[-1]))
         texts[name] = damaged(draw, texts[name], name == "formula", FIELDS + ODD)
     write(room, texts)
     compare(found, room, command, texts)
     return found
+
+
+def with_a_line(draw, text):
+    """A file of rewards with a line more, which mostly has a fault; the header counts it, or does not."""
+    head, *lines = text.split("\n")
+    lines.insert(draw.randint(0, len(lines)), draw.choice(LINES))
+    word, states, stated = head.split()
+    return "\n".join([f"{word} {states} {int(stated) + draw.choice((0, 1, 1))}", *lines])
 
 
 def compare(found, room, command, texts):
