@@ -50,7 +50,7 @@ RIGHT_PAID = {"f": PAID_FORMULAS, "c": ("granted", "granted", "certificate", "ba
 WRONG = ("", "-1", "+", "1.0", "0x1", "4294967296", "1000001", "65", "2147483647", "2", "-0", "x", " 1", "١")
 ODD = (
     *("", "-", "--", "--", "--help", "-h", "--plan=", "--plan=true", "--pla", "--own", "--rounds=1", "--traps"),
-    *("--plan", "---", "x", "--workers"),
+    *("--plan", "---", "x", "--workers", "--rewards", "--rewards="),
 )
 
 
