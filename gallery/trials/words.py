@@ -125,6 +125,8 @@ def reading(words):
             options[name] = value
             waiting = None if equals or name in FLAGS else name
     asked = {**dict(zip(PLACES[words[0]], places)), **options}
+    if {"--values", "--rewards"} <= set(options):
+        return None
     if waiting or len(places) != len(PLACES[words[0]]) or not all(is_right(*said) for said in asked.items()):
         return None
     return {"command": words[0], **asked}
