@@ -28,8 +28,8 @@ BOHNENKAMP, MCIVER, FELLER = "Bohnenkamp and others 2003", "McIver and Morgan 20
 Expected = namedtuple(
     "Expected", "family sizes structure bound goal value source state coalition", defaults=(FIRST, None)
 )
-Expected.__doc__ = """A value, as a whole number, a fraction or in decimals, or infinite; of which state it is, and who is
-the coalition."""
+Expected.__doc__ = """A value, as a whole number, a fraction or in decimals, or infinite; of which state it is, and
+who is the coalition."""
 Worked = namedtuple("Worked", "state value turns is_right")
 Worked.__doc__ = """The state whose value a row has, the value, how many turns the game is expected to last there, and
 whether the value is the row's. In floating point the value is the source's, and each turn pays 1."""
