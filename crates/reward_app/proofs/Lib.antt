@@ -1,3 +1,4 @@
 pub mod Answered
 pub mod Certified
+pub mod Complete
 pub mod Endings

@@ -1,6 +1,7 @@
 -- These definitions say how a run on rewards ends, what it has written then, and what it has asked of its shelf.
-use Rattle.std.specs.Prelude.{◌≡◌, ◌<◌, ◌≤◌, ◌+◌, ◌⊎◌, ℕ, Bool, true, List, Option, Result, Ok, Err}
+use Rattle.std.specs.Prelude.{◌≡◌, ◌<◌, ◌≤◌, ◌+◌, ◌⊎◌, ℕ, Bool, true, List, Option, Some, Result, Ok, Err}
 use Rattle.text_lines.specs.Limits.{most_bytes}
+use Rattle.fractions.specs.Fraction.{Fraction}
 use Rattle.game_outside.specs.Limits.{piece_size}
 use Rattle.game_outside.specs.Outside.{Holding, Rose, KeepsShelf}
 use Rattle.output.specs.declared.answer.Answer.{Answer}
@@ -8,7 +9,12 @@ use Rattle.output.specs.declared.status.Status.{Status}
 use Rattle.output.specs.declared.status.Status.TheVariants.{Fine, SomeFalse, SomeUndecided, Usage, ModelRefused}
 use Rattle.output.specs.declared.status.Status.TheVariants.{ReadFault, WriteFault, OutOfMemory, CertificateRefused}
 use Rattle.stogame_app.specs.Run.{Writes, WritesFront}
+use Rattle.inputs.specs.Asks.{GivenTextWith}
+use Rattle.reward_check.specs.Certificates.{Certificate}
+use Rattle.reward_text.specs.declared.plan.RewardPlan.{RewardPlan}
+use Rattle.reward_audit.specs.Accepted.{IsAcceptedText}
 use Rattle.reward_words.specs.Words.{RewardCommand, AreRewardCommand, DenoteRewardCommand}
+use Rattle.reward_words.specs.Words.{OfAuditReward, OfSolveReward}
 use Rattle.reward_refusals.specs.declared.refusal.RewardRefusal.{RewardRefusal}
 use Rattle.reward_refusals.specs.Caused.{IsRewardCaused}
 use Rattle.reward_refusals.specs.Printable.{RewardRefusalPrintable}
@@ -17,7 +23,10 @@ use Rattle.reward_refusals.specs.Status.{reward_status}
 use Rattle.reward_inputs.specs.declared.end.RewardEnd.{RewardEnd}
 use Rattle.reward_inputs.specs.declared.end.RewardEnd.TheVariants as end
 use Rattle.reward_inputs.specs.Loading.{IsLongRefusal}
+use Rattle.reward_inputs.specs.Posed.{RewardQuestion}
+use Rattle.reward_inputs.specs.Questions.{AsksIt}
 use Rattle.reward_app.specs.Commands.{RefusesReward, IsRewardMissing}
+use Rattle.reward_app.specs.Reports.{HasRewardsOf, exact_by}
 use Rattle.reward_app.specs.OfWords.{IsRewardReportOfWords}
 
 -- 1. What is written.
@@ -102,3 +111,34 @@ AnswersRewardWords words holding taken (Ok answer) =
 AnswersRewardWords words holding taken (Err end.OutOfMemory) = Unit {0}
 AnswersRewardWords words holding taken (Err end.ReadFault) = IsRewardUnread words taken
 AnswersRewardWords words holding taken (Err (end.Refused refusal)) = RefusesRewardWords words holding taken refusal
+
+-- 5. What is held and accepted.
+
+-- Over the rewards of a question, a text is there that is accepted as its certificate.
+pub record AcceptsRewardCertificate (question : RewardQuestion) (source : Option (List ℕ)) : Type 0 where
+  pub table : List (Option Fraction)
+  pub has : HasRewardsOf question table
+  pub plan : RewardPlan
+  pub certificate : Certificate
+  pub accepted : GivenTextWith source
+      (λ text. IsAcceptedText question.posing.question (exact_by question table) text plan certificate)
+
+-- The held texts ask the question of a command, and for `audit` the held certificate is accepted.
+abbrev pub IsAcceptedReward : Holding → RewardCommand → Type 0
+IsAcceptedReward held (OfAuditReward audit) = (question : RewardQuestion)
+    × AsksIt (Some held) audit.asked audit.rewards question
+    × AcceptsRewardCertificate question (held audit.certificate)
+IsAcceptedReward held (OfSolveReward solve) =
+    (question : RewardQuestion) × AsksIt (Some held) solve.asked solve.rewards question
+
+-- The words denote a command on rewards, the holding is known, and all that the command needs is held and accepted.
+pub record IsAcceptedRewardWords (words : List (List ℕ)) (holding : Option Holding) : Type 0 where
+  pub command : RewardCommand
+  pub denoted : AreRewardCommand words command
+  pub held : Holding
+  pub known : holding ≡ Some held
+  pub accepted : IsAcceptedReward held command
+
+-- The shelf can be read: it is steady, or no fault of it arose.
+abbrev pub IsRewardReadable : {S : Type 0} → (S → Bool) → (S → ℕ) → S → S → Type 0
+IsRewardReadable steady faults old new = (steady old ≡ true) ⊎ (¬ Rose (faults old) (faults new))

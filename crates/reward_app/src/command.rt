@@ -7,15 +7,17 @@ ghost use Rattle.output.specs.Status.{IsAnswer};
 ghost use Rattle.reward_words.specs.Words.{RewardCommand, AreRewardCommand, AreNoRewardCommand, reward_command_of};
 ghost use Rattle.stogame_app.specs.Run.{AsksShelf, IsAcceptedOfWords, IsEnding, IsReadable};
 ghost use Rattle.reward_app.specs.inside.Answers.{IsRewardAnswered};
-ghost use Rattle.reward_app.specs.Run.{AsksRewardShelf, IsRewardEnding};
+ghost use Rattle.reward_app.specs.Run.{AsksRewardShelf, IsAcceptedRewardWords, IsRewardEnding, IsRewardReadable};
 
 use crate::audit::audit_loaded;
 use crate::ends::end_run;
 use crate::solve::solve_loaded;
 use game_outside::{Gate, Shelf, Sink};
 use output::{Answer, Status};
+use reward_audit::laws::reward_audits_have_one_answer;
+use reward_inputs::laws::reward_questions_are_what_is_asked;
 use reward_inputs::{RewardEnd, load_reward_model};
-use reward_words::laws::reward_words_are_no_other_command;
+use reward_words::laws::{reward_words_are_no_other_command, words_denote_one_reward_command};
 use reward_words::{RewardWords, read_reward_words};
 use std::alloc::Global;
 use std::thread::Threads;
@@ -51,6 +53,12 @@ pub fn run<R: Threads + Sync, H: Shelf, K: Sink, G: Gate + Sync>(
     ensures rewards_shelf { (command : RewardCommand) → AreRewardCommand (map string_bytes words.now) command
         → AsksRewardShelf H.held H.steady H.faults H.taken (map string_bytes words.now) shelf.old shelf.new result }
 
+    // It does not give up by itself: if what the words need is held and accepted, the shelf can be read, and no fault
+    // of writing arose, it answers or lacks memory.
+    ensures rewards_complete { IsAcceptedRewardWords (map string_bytes words.now) (H.held shelf.old)
+        → IsRewardReadable H.steady H.faults shelf.old shelf.new
+        → ¬ Rose (K.faults out.old) (K.faults out.new) → IsAnswer result ⊎ (result ≡ Status.OutOfMemory) }
+
     // With all other words it does so as without rewards.
     ensures ends { AreNoRewardCommand (map string_bytes words.now)
         → IsEnding (map string_bytes words.now) (H.held shelf.old) (H.taken shelf.new) (K.written out.old)
@@ -67,8 +75,11 @@ pub fn run<R: Threads + Sync, H: Shelf, K: Sink, G: Gate + Sync>(
         → IsReadable H.steady H.faults (map string_bytes words.now) shelf.old shelf.new
         → ¬ Rose (K.faults out.old) (K.faults out.new) → IsAnswer result ⊎ (result ≡ Status.OutOfMemory) }
 {
-    // This call does nothing: it is a law.
+    // These calls do nothing: they are laws.
     reward_words_are_no_other_command();
+    words_denote_one_reward_command();
+    reward_questions_are_what_is_asked();
+    reward_audits_have_one_answer();
     match read_reward_words(alloc, words) {
         Ok(Some(command)) => {
             let made = answer(alloc, &command, shelf);
