@@ -1,15 +1,17 @@
 -- What a plan of rewards says of each state, as it grows.
 use Rattle.std.proofs.Common.{◌≡◌, ◌<◌, ◌+◌, ◌-◌, ℕ, Bool, false, cond, List, [], ◌∷◌, ◌++◌, length, map, Option, Some}
 use Rattle.std.proofs.Common.{None}
-use Rattle.std.proofs.Common.{refl, sym, ap, ◌∙◌, arith, append_assoc}
+use Rattle.std.proofs.Common.{refl, sym, ap, ◌∙◌, arith, append_assoc, inl, inr}
+use Rattle.std.specs.Prelude.{slice_index, slice_index_or}
 use Rattle.std.specs.List.{range_with_len}
+use Rattle.std.proofs.lemmas.Bool.{cases_lt}
 use Rattle.std.proofs.lemmas.List.{length_push, get_or_append_left, get_or_push}
 use Rattle.std.proofs.lemmas.List.FromFn.{map-range_with_len_more, fill_by_all, length-map-range_with_len}
 use Rattle.std.proofs.lemmas.List.FromFn.{get_or-map-range_with_len}
 use Rattle.plan_text.specs.Written.{entry_lines_by}
 use Rattle.plan_text.proofs.EntryLines.{lines_more}
 use Rattle.reward_text.specs.declared.plan.RewardPlan.{RewardPlan}
-use Rattle.reward_text.specs.Entries.{RewardEntry, HasRewardStates, value_at, reward_entry_at, reward_entries_of}
+use Rattle.reward_text.specs.Entries.{RewardEntry, HasRewardStates, AreZeroElsewhere, value_at, reward_entry_at, reward_entries_of}
 use Rattle.reward_text.specs.Written.{reward_entry_text}
 use Rattle.reward_text.specs.inside.Read.{is_number, units_or_zero}
 
@@ -54,6 +56,33 @@ value_at-last : (numbers : List Bool) (units : List ℕ) (value : Option ℕ) (n
 value_at-last numbers units value n marked long =
     rw (get_or_push numbers (is_number value) false n marked, get_or_push units (units_or_zero value) 0 n long)
     (kept value)
+
+zero-none : (value : Option ℕ) → is_number value ≡ false → units_or_zero value ≡ 0
+zero-none None none = refl
+zero-none (Some units) none = absurd (cc)
+
+zeros-more : (numbers : List Bool) (units : List ℕ) (value : Option ℕ) (n : ℕ) → length numbers ≡ n
+    → length units ≡ n → AreZeroElsewhere numbers units
+    → AreZeroElsewhere (numbers ++ is_number value ∷ []) (units ++ units_or_zero value ∷ [])
+zeros-more numbers units value n marked long zeros s inside out = elim (cases_lt s n) [
+  | inl before ↦
+      let a = get_or_append_left numbers (is_number value ∷ []) false s (omega (arith, marked, before)) in
+      let b = get_or_append_left units (units_or_zero value ∷ []) 0 s (omega (arith, long, before)) in
+      b ∙ zeros s (omega (arith, long, before)) (sym a ∙ out)
+  | inr past ↦
+      let last : s ≡ n = omega (arith, past, inside, length_push units (units_or_zero value), long) in
+      let none : is_number value ≡ false = sym (get_or_push numbers (is_number value) false n marked)
+      ∙ ap (λ k. slice_index_or (numbers ++ is_number value ∷ []) k false) (sym last) ∙ out in
+      ap (λ k. slice_index (units ++ units_or_zero value ∷ []) k) last
+      ∙ get_or_push units (units_or_zero value) 0 n long ∙ zero-none value none
+]
+
+-- an entry that is no number is 0
+pub zeros-push : (numbers more : List Bool) (units others : List ℕ) (value : Option ℕ) (n : ℕ) → length numbers ≡ n
+    → length units ≡ n → AreZeroElsewhere numbers units → more ≡ numbers ++ is_number value ∷ []
+    → others ≡ units ++ units_or_zero value ∷ [] → AreZeroElsewhere more others
+zeros-push numbers more units others value n marked long zeros is_more is_others =
+    rw (is_more, is_others) (zeros-more numbers units value n marked long zeros)
 
 -- the states before are as they were
 entry_at-before : (old new : RewardPlan) (entry : RewardEntry) (n k : ℕ) → HasRewardStates old n

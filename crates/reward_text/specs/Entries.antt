@@ -1,5 +1,5 @@
 -- This module defines the entries of a certificate of rewards, one for each state.
-use Rattle.std.specs.Prelude.{◌≡◌, ◌≤◌, ℕ, Bool, false, List, length, map, slice_index, slice_index_or, All, Option}
+use Rattle.std.specs.Prelude.{◌≡◌, ◌≤◌, ◌<◌, ℕ, Bool, false, List, length, map, slice_index, slice_index_or, All, Option}
 use Rattle.std.specs.Prelude.{Some, None, if◌then◌else◌}
 use Rattle.std.specs.List.{range_with_len}
 use Rattle.game_model.specs.Limits.{unit}
@@ -35,10 +35,17 @@ pub record HasRewardStates (plan : RewardPlan) (states : ℕ) : Type 0 where
   pub upper : length plan.upper.items ≡ states
   pub replies : length plan.replies.items ≡ states
 
--- No entry of the lists of values is above the unit.
+-- Where a value is no number, its entry is 0.
+abbrev pub AreZeroElsewhere : List Bool → List ℕ → Type 0
+AreZeroElsewhere numbers units = (s : ℕ) → s < length units → slice_index_or numbers s false ≡ false
+    → slice_index units s ≡ 0
+
+-- No entry of the lists of values is above the unit, and those that are no number are 0.
 pub record HasUnits (plan : RewardPlan) : Type 0 where
   pub lower : All (λ v. v ≤ unit) plan.lower.items
   pub upper : All (λ v. v ≤ unit) plan.upper.items
+  pub no_lower : AreZeroElsewhere plan.finite.items plan.lower.items
+  pub no_upper : AreZeroElsewhere plan.bounded.items plan.upper.items
 
 -- The value of a state is a number where this is marked, and infinite elsewhere.
 abbrev pub value_at : List Bool → List ℕ → ℕ → Option ℕ
