@@ -11,7 +11,8 @@ use Rattle.std.proofs.lemmas.List.FromFn.{get_or-map-range_with_len}
 use Rattle.plan_text.specs.Written.{entry_lines_by}
 use Rattle.plan_text.proofs.EntryLines.{lines_more}
 use Rattle.reward_text.specs.declared.plan.RewardPlan.{RewardPlan}
-use Rattle.reward_text.specs.Entries.{RewardEntry, HasRewardStates, AreZeroElsewhere, value_at, reward_entry_at, reward_entries_of}
+use Rattle.reward_text.specs.Entries.{RewardEntry, HasRewardStates, AreZeroElsewhere, value_at, reward_entry_at}
+use Rattle.reward_text.specs.Entries.{reward_entries_of}
 use Rattle.reward_text.specs.Written.{reward_entry_text}
 use Rattle.reward_text.specs.inside.Read.{is_number, units_or_zero}
 

@@ -1,6 +1,6 @@
 -- This module defines the entries of a certificate of rewards, one for each state.
-use Rattle.std.specs.Prelude.{◌≡◌, ◌≤◌, ◌<◌, ℕ, Bool, false, List, length, map, slice_index, slice_index_or, All, Option}
-use Rattle.std.specs.Prelude.{Some, None, if◌then◌else◌}
+use Rattle.std.specs.Prelude.{◌≡◌, ◌≤◌, ◌<◌, ℕ, Bool, false, List, length, map, slice_index, slice_index_or, All}
+use Rattle.std.specs.Prelude.{Option, Some, None, if◌then◌else◌}
 use Rattle.std.specs.List.{range_with_len}
 use Rattle.game_model.specs.Limits.{unit}
 use Rattle.plan_text.specs.Entries.{EntryOf, IsInRangeOf}
