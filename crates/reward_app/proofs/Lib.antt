@@ -1,3 +1,6 @@
 pub mod Answered
 pub mod Certified
 pub mod Endings
+pub mod Passing
+pub mod Entries
+pub mod Saved
