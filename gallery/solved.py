@@ -12,6 +12,7 @@ from fractions import Fraction
 from pathlib import Path
 
 from toolbox.programs import TRUTHS, asked, bracket_of, failures, verdict_of, width_of
+from toolbox.rewards import INFINITE
 
 
 @dataclass
@@ -61,7 +62,7 @@ def faults_of_report(lines, question, value):
 
 def faults_of_line(line, question, value):
     """What is wrong with a line, of a state with this value, that has to say whether this is 0 or 1."""
-    lower, upper = map(Fraction, bracket_of(line))
+    lower, upper = bounds_of(line)
     says_ends = (lower == 1, upper == 0) == (value == 1, value == 0)
     ends = [] if says_ends else ["the bounds do not say whether the value is 0 or 1"]
     return faults_of_bounds(line, question, value) + ends
@@ -69,13 +70,18 @@ def faults_of_line(line, question, value):
 
 def faults_of_bounds(line, question, value):
     """What is wrong with the bounds and the verdict of a line, of a state with this value."""
-    lower, upper = map(Fraction, bracket_of(line))
+    lower, upper = bounds_of(line)
     faults = [] if lower <= value <= upper else ["the bracket misses the value"]
     if verdict_of(line) != verdict_by(question, lower, upper):
         faults.append("the verdict is not that of the bounds")
     if question.limit is not None and TRUTHS.get(verdict_of(line)) == (not question.is_true_of(value)):
         faults.append("the verdict is wrong of the value")
     return faults
+
+
+def bounds_of(line):
+    """The bounds of a line as numbers, of which those of expected rewards may be infinite."""
+    return [INFINITE if bound == "infinite" else Fraction(bound) for bound in bracket_of(line)]
 
 
 def verdict_by(question, lower, upper):
@@ -86,15 +92,16 @@ def verdict_by(question, lower, upper):
     return str(kept.pop()) if len(kept) == 1 else "Undecided"
 
 
-def faults_of_plan(lines, model, path, question, *options):
-    """What is wrong with the certificate of the same question, with these options, and what an audit says of it."""
-    plan = asked("solve", path, model, question, "--plan", *options)
+def faults_of_plan(lines, model, path, question, *options, texts=()):
+    """What is wrong with the certificate of the same question, with these options, and what an audit says of it; the
+    options that name more texts of the question are the audit's too."""
+    plan = asked("solve", path, model, question, "--plan", *options, *texts)
     if failures(plan) or plan.output.splitlines()[: len(lines)] != lines:
         return ["--plan begins with another answer"]
     with tempfile.TemporaryDirectory() as room:
         certificate = Path(room) / "certificate"
         certificate.write_text(plan.output, encoding="ascii")
-        audit = asked("audit", path, model, question, certificate)
+        audit = asked("audit", path, model, question, certificate, *texts)
     expected = [line.replace(" solved ", " audited ") for line in lines]
     if failures(audit) or audit.output.splitlines() != expected:
         return [f"the audit says {audit.output.strip()}"]

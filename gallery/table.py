@@ -6,6 +6,7 @@ import string
 import textwrap
 
 from toolbox.endings import Refusal
+from toolbox.rewards import INFINITE
 
 MOST_OF_A_DENOMINATOR = 10**9
 PLACES = 18
@@ -15,9 +16,12 @@ HEAD = "| Question | Value | Bracket | Verdict | Width by `solve` |\n|---|---|--
 
 def shown(value):
     """A value as a fraction where it is short, else its first decimals, cut off."""
+    if value == INFINITE:
+        return "infinite"
     if value.denominator < MOST_OF_A_DENOMINATOR:
         return str(value)
-    return f"0.{value.numerator * 10**PLACES // value.denominator:0{PLACES}d}.."
+    whole, rest = divmod(value.numerator, value.denominator)
+    return f"{whole}.{rest * 10**PLACES // value.denominator:0{PLACES}d}.."
 
 
 def printed(answer):

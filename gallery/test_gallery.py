@@ -13,9 +13,11 @@ from xml.etree import ElementTree
 
 from gallery import pictures
 from gallery.answer import Answer, judge_bracket, judge_inside, parted
+from gallery.collected import key_of_row
 from gallery.families import OTHER, SIZES, Known, agrees, brp, chain, charlton, coin, csma, egl, hallway, instances
 from gallery.families import investor, known_as, microgrid, same_or_size, teams, wlan
 from gallery.picture import BOTTOM, LEFT, RIGHT, Picture, linear, logarithmic
+from gallery.rewards import ROWS
 from gallery.solved import Solved, faults_of_line, is_taken, solved
 from gallery.solved import spelt as spelt_width
 from gallery.table import contents, joined, read_lines, write_lines, write_markdown
@@ -465,12 +467,25 @@ class Page(InFolder):
         sections = dict(part.split("\n", 1) for part in page.split("\n### ")[1:])
         self.assertLessEqual(max(map(len, page.splitlines())), 120)
         self.assertEqual(list(sections), [name for size in SIZES for name, _, _ in instances(size)])
-        for key, line in lines.items():
+        for key, line in (one for one in lines.items() if "R{" not in one[0]):
             (name, asked), bounds = key.split("\t"), bracket_of(line.split(", ")[-1])
             width = spelt_width(Fraction(bounds[1]) - Fraction(bounds[0])) if bounds else ""
             with self.subTest(model=name, question=asked):
                 self.assertIn("| `{}`".format(asked.split("'")[1]), sections[name])
                 self.assertIn(width if asked.startswith("solve") else joined(bounds), sections[name])
+
+    def test_the_page_has_what_is_expected(self):
+        """Each row of the tables of expected rewards has its stored line, and its bounds on the page."""
+        here = Path(__file__).resolve().parent
+        lines, page = read_lines(here / "lines.tsv"), (here / "ANSWERS.md").read_text(encoding="utf-8")
+        keys = [key_of_row(one) for size in SIZES for one in ROWS[size]]
+        self.assertEqual(keys, [key for key in lines if "R{" in key])
+        for key in keys:
+            with self.subTest(key):
+                name, asked = key.split("\t")
+                _, found, rest = page.partition("| {} | `{}`".format(name, asked.split("'")[1]))
+                self.assertTrue(found)
+                self.assertIn(f" {joined(bracket_of(lines[key]))} |", "".join(rest.splitlines()[:2]))
 
 
 class Drawn(unittest.TestCase):

@@ -3,7 +3,7 @@ here.
 
 docs/INTEROP.md has the table of dialects; a function here has a row of it, or says what there is not. A property that
 is rewritten by its dual has its bounds 1 less and exchanged (`mirrored`); one that is rewritten by its opposite has
-True for False (`negated`).
+True for False (`negated`). Of rewards the file is told, too.
 """
 
 import re
@@ -13,6 +13,7 @@ from itertools import count
 
 from toolbox.formulas import FAILS, OPPOSITES
 from toolbox.model import spelt
+from toolbox.rewards import spelt as spelt_reward
 
 COMPARED = ("=", "!=", "<", "<=", ">", ">=")
 PATHS = ("F", "G", "X", "U", "W", "R")
@@ -49,10 +50,10 @@ SIGN_WORDS = {
 OPERATOR = re.compile("|".join(map(re.escape, SIGN_WORDS)))
 MOST_SIGNS = 200
 
+BOUNDS = ("P", "Pmax", "Pmin")
+REWARD_BOUNDS = ("R", "Rmax", "Rmin")
+
 NOT_HERE = {
-    "R": "rewards",
-    "Rmin": "rewards",
-    "Rmax": "rewards",
     "S": "the steady state",
     "multi": "several objectives",
     "C": "cumulative rewards",
@@ -60,10 +61,12 @@ NOT_HERE = {
     "label": "a label of this form",
     "formula": "an expression with a name",
 }
+REWARD_PATHS = {"Fc": "that are paid", "F0": "that are 0"}
 
-Rewritten = namedtuple("Rewritten", "formula negated mirrored states", defaults=[None])
+Rewritten = namedtuple("Rewritten", "formula negated mirrored states rewards", defaults=[None, None])
 Rewritten.__doc__ = """A formula of `stogame`; whether its True is the property's False, and its bounds 1 less the
-property's; and the state formula of the states that are asked, or None for the initial ones."""
+property's; the state formula of the states that are asked, or None for the initial ones; and the file of the rewards,
+or None where it is about a probability."""
 
 Atom = namedtuple("Atom", "variable sign value")
 Atom.__doc__ = "A comparison of a variable with a value, as both are written."
@@ -73,9 +76,10 @@ class NoSpelling(Exception):
     """Why a property has no spelling here."""
 
 
-Surroundings = namedtuple("Surroundings", "constants players labels is_chain defined", defaults=[{}])
+Surroundings = namedtuple("Surroundings", "constants players labels is_chain defined rewards", defaults=[{}, {}])
 Surroundings.__doc__ = """What a property is read with: the texts of constants by name, the names of all players and
-labels, whether the model is a Markov chain, and the expressions of further labels by name."""
+labels, whether the model is a Markov chain, the expressions of further labels by name, and the files of rewards by
+name, the first one first; a structure without a name has the empty one."""
 
 
 class Rewriter:
@@ -83,7 +87,7 @@ class Rewriter:
     by their label."""
 
     def __init__(self, text, around):
-        self.around, self.atoms = around, {}
+        self.around, self.atoms, self.is_paid = around, {}, False
         self.tokens = list(self.cut(text))
         self.all_tokens = list(self.tokens)
 
@@ -137,8 +141,8 @@ class Rewriter:
     def outermost(self):
         self.refuse_kinds()
         if not self.begins_formula():
-            raise NoSpelling("a property begins with P, a coalition or a quantifier")
-        return self.probability(is_outermost=True)
+            raise NoSpelling("a property begins with P, R, a coalition or a quantifier")
+        return self.bounded(is_outermost=True)
 
     def refuse_kinds(self):
         kind, text = self.tokens[0]
@@ -146,29 +150,58 @@ class Rewriter:
             raise NoSpelling(f"{NOT_HERE[text]} ({text}): there is none here")
 
     def begins_formula(self):
-        return self.ahead("P", "Pmax", "Pmin", "<<", "A", "E") or (self.ahead("[") and self.ahead("[", at=1))
+        is_opposed = self.ahead("[") and self.ahead("[", at=1)
+        return is_opposed or self.ahead(*BOUNDS, *REWARD_BOUNDS, "<<", "A", "E")
 
     # Bounds and players
 
-    def probability(self, is_outermost):
+    def bounded(self, is_outermost):
         """A formula with a bound, as the outermost or inside one."""
+        if self.is_paid:
+            raise NoSpelling("a formula inside one of rewards")
         if self.ahead("A", "E"):
             return self.quantified()
         coalition, opposed = self.coalition()
         self.refuse_kinds()
-        word = self.take("P", "Pmax", "Pmin")
+        self.is_paid = self.ahead(*REWARD_BOUNDS)
+        if self.is_paid and not is_outermost:
+            raise NoSpelling("rewards (R) inside a formula")
+        word, name, rewards = self.rewards() if self.is_paid else (self.take(*BOUNDS), None, None)
         sign, threshold = self.bound(word, is_outermost)
-        if word != "P" and threshold is not None:
+        if word not in ("P", "R") and threshold is not None:
             coalition = self.some_strategy(word, sign, coalition)
         if opposed and threshold is None:
             raise NoSpelling("[[..]] with a value")
         self.take("[")
-        path, dual = self.path()
+        path, dual = (self.reward_path(), False) if self.is_paid else self.path()
         self.take("]")
         if opposed:
             sign = FAILS[sign]
-        bound = spelt_bound(word, sign, threshold, dual)
-        return Rewritten(f"{coalition}{bound} [ {path} ]", opposed, dual)
+        bound = spelt_rewards(name, word, sign, threshold) if self.is_paid else spelt_bound(word, sign, threshold, dual)
+        return Rewritten(f"{coalition}{bound} [ {path} ]", opposed, dual, rewards=rewards)
+
+    def rewards(self):
+        """The word of a bound of rewards, the name of their structure and its file."""
+        word, names = self.take(*REWARD_BOUNDS), list(self.around.rewards)
+        name, asked, option = names[0] if names else None, "", ""
+        if word == "R" and self.ahead("{"):
+            self.take("{")
+            name, asked, option = self.structure(names)
+            self.take("}")
+            word += self.take() if self.ahead("max", "min") else ""
+        if name not in names:
+            raise NoSpelling(f"no file of the rewards{asked}; give it by --rewards {option}FILE")
+        return word, name, self.around.rewards[name]
+
+    def structure(self, names):
+        """The name of a structure of rewards, which is told by name or by number, the first one being 1; and how the
+        property and the option tell it."""
+        if self.tokens[0][0] == "name":
+            name = self.take().strip('"')
+            return name, f' "{name}"', f"{name}="
+        number = self.number()
+        found = names[int(number) - 1 : int(number)] if number.denominator == 1 and number else []
+        return next(iter(found), None), f" {number}", ""
 
     def quantified(self):
         """`A [ G a ]` and `E [ F a ]`; the others count paths of probability 0."""
@@ -217,14 +250,14 @@ class Rewriter:
             self.take("=?")
             if not is_outermost:
                 raise NoSpelling(f"{word}=? inside a formula: only thresholds stand there")
-            if word == "P" and not self.around.is_chain:
-                raise NoSpelling("P=? of a model with choices: ask for Pmax=? or Pmin=?")
+            if word in ("P", "R") and not self.around.is_chain:
+                raise NoSpelling(f"{word}=? of a model with choices: ask for {word}max=? or {word}min=?")
             return None, None
         return self.take(">=", ">", "<=", "<"), self.number()
 
     def some_strategy(self, word, sign, coalition):
         """`Pmin>=p` asks it of every strategy, as `P>=p` does; `Pmax>=p` of some, which is all players' together."""
-        if (word == "Pmin") == (sign in (">=", ">")):
+        if word.endswith("min") == (sign in (">=", ">")):
             if coalition:
                 raise NoSpelling(f"a coalition with {word}{sign}")
             return coalition
@@ -232,11 +265,14 @@ class Rewriter:
 
     def number(self):
         """A number, a constant or a fraction of whole numbers, exactly."""
-        value = Fraction(self.constant())
+        spelling = self.constant()
         if self.ahead("/"):
-            self.take("/")
-            value /= Fraction(self.constant())
-        return value
+            spelling += self.take("/") + self.constant()
+        try:
+            value, *divisor = map(Fraction, spelling.split("/"))
+            return value / divisor[0] if divisor else value
+        except (ValueError, ZeroDivisionError):
+            raise NoSpelling(f"{spelling} is no number") from None
 
     def constant(self):
         """The digits of a number or of a constant."""
@@ -277,6 +313,17 @@ class Rewriter:
         state = self.operand()
         self.refuse_formula_of_paths()
         return (f"F{steps} !{state}", True) if word == "G" and steps else (f"{word}{steps} {state}", False)
+
+    def reward_path(self):
+        """Up to where rewards are paid."""
+        self.refuse_kinds()
+        if self.ahead(*REWARD_PATHS):
+            word = self.take()
+            raise NoSpelling(f"{word}: rewards {REWARD_PATHS[word]} where no goal is reached; here they are infinite")
+        self.take("F")
+        if self.steps():
+            raise NoSpelling("rewards with a bound on the steps")
+        return self.unary_path("F")[0]
 
     def refuse_formula_of_paths(self):
         if self.ahead("||"):
@@ -351,7 +398,7 @@ class Rewriter:
             return f"!{self.unary()}"
         self.refuse_kinds()
         if self.begins_formula():
-            made = self.probability(is_outermost=False)
+            made = self.bounded(is_outermost=False)
             return f"!({made.formula})" if made.negated else f"({made.formula})"
         if self.ahead("("):
             self.take("(")
@@ -368,6 +415,7 @@ class Rewriter:
         """The expression of a label, in which the label itself is not known."""
         others = {name: text for name, text in self.around.defined.items() if name != label}
         inner = Rewriter(self.around.defined[label], self.around._replace(defined=others))
+        inner.is_paid = self.is_paid
         state = inner.operand()
         if inner.tokens[0][0] != "end":
             raise NoSpelling(f"'{inner.tokens[0][1]}' behind the expression of the label \"{label}\"")
@@ -412,6 +460,17 @@ def spelt_bound(word, sign, threshold, dual):
     if not 0 <= threshold <= 1:
         raise NoSpelling(f"{threshold} is no probability")
     return f"P{OPPOSITES[sign]}{spelt(1 - threshold)}" if dual else f"P{sign}{spelt(threshold)}"
+
+
+def spelt_rewards(name, word, sign, threshold):
+    """The bound of rewards as it is written here."""
+    named = f'{{"{name}"}}' if name else ""
+    if threshold is None:
+        return f"R{named}{'min' if word.endswith('min') else 'max'}=?"
+    try:
+        return f"R{named}{sign}{spelt_reward(threshold)}"
+    except ValueError as fault:
+        raise NoSpelling(f"a threshold {fault}") from None
 
 
 def rewritten(text, around):

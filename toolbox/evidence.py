@@ -15,6 +15,7 @@ from toolbox import explicit, programs
 from toolbox.endings import Ending, Refusal
 from toolbox.formulas import Reader, labels_named
 from toolbox.model import mark_text, states_by_mark
+from toolbox.reward_formulas import rewards_asked
 
 REAUDIT = programs.ROOT / "tools" / "reaudit"
 UNDECIDED = 2
@@ -60,6 +61,11 @@ def taken_apart(text, names):
     return [*found, part.strip()]
 
 
+def formula_of(files, text):
+    """The formula of a text, one of rewards where the files have some."""
+    return rewards_asked(text) if "paid" in files else Reader(text).whole()
+
+
 def is_nested(formula):
     return len(taken_apart(formula, Names(""))) > 1
 
@@ -85,13 +91,14 @@ class Argument:
     def __init__(self, files, formula, room, certificate_of):
         self.files, self.formula, self.room, self.certificate_of = files, formula, Path(room), certificate_of
         self.own = ["--own", files["own"]] if "own" in files else []
+        self.paid = ["--rewards", files["paid"]] if "paid" in files else []
         self.names, self.whole, self.states = Names(""), None, None
-        if is_nested(formula):
+        if not self.paid and is_nested(formula):
             self.whole = programs.answered("solve", self.question(files["lab"], formula))
             self.states = explicit.header_of(files["tra"]).states
             self.given = explicit.read_labels(files["lab"], self.states)
             self.names = names_beside(self.given)
-        self.formulas = taken_apart(formula, self.names)
+        self.formulas = [formula] if self.paid else taken_apart(formula, self.names)
         self.parts = []
         for number, part in enumerate(self.formulas, 1):
             self.parts.append(self.answered(number, part))
@@ -106,7 +113,7 @@ class Argument:
                 raise Refusal("solve", None, f"its bounds at state {state} are apart from those of the steps")
 
     def question(self, labels, formula):
-        return [self.files["tra"], str(labels), formula, *self.own]
+        return [self.files["tra"], str(labels), formula, *self.own, *self.paid]
 
     def answered(self, number, formula):
         """A part, with the evidence for it."""
@@ -114,11 +121,11 @@ class Argument:
         if self.whole:
             name, text = self.room / f"labels_{number}", label_text(self.marks(number, formula))
             name.write_text(text, encoding="ascii")
-        question, steps, certificate = self.question(name, formula), Reader(formula).whole().horizon(), None
+        question, steps, certificate = self.question(name, formula), formula_of(self.files, formula).horizon(), None
         if steps is None:
             path, shown = self.certificate_of(number, question)
             report, second = programs.audited(question, path, shown), second_of(question, path)
-            certificate = certificate_text(path)
+            certificate = certificate_text(path, first_word(self.files))
         else:
             shown = formula
             report, second = programs.answered("check", question), second_of(question)
@@ -164,18 +171,23 @@ def reported(run):
     return {int(line[1]): line.groups()[1:] for line in found}
 
 
-def certificate_text(name):
+def first_word(files):
+    """What a certificate begins with, which is of rewards where the files have some."""
+    return "rewards" if "paid" in files else "certificate"
+
+
+def certificate_text(name, word):
     """The text of the certificate in a file, behind whatever stands before it and before blank lines."""
     lines = lines_of(name)
-    return "\n".join(lines[certificate_place(lines, name) :]).rstrip() + "\n"
+    return "\n".join(lines[certificate_place(lines, name, word) :]).rstrip() + "\n"
 
 
-def certificate_place(lines, name):
-    """The place of the first line that begins with `certificate`."""
+def certificate_place(lines, name, word):
+    """The place of the first line that begins with this word."""
     for place, line in enumerate(lines):
-        if line.split()[:1] == ["certificate"]:
+        if line.split()[:1] == [word]:
             return place
-    raise Refusal(name, None, "no line begins with 'certificate'")
+    raise Refusal(name, None, f"no line begins with '{word}'")
 
 
 def lines_of(name):

@@ -103,25 +103,28 @@ class Formula:
 
     def words(self):
         """The question as a sentence. For nobody's coalition all strategies are the others'."""
-        path, team = self.path_words(), ", ".join(self.coalition or ())
-        most = self.bound == "Pmax"
+        asked, path, team = self.asked_words(), self.path_words(), ", ".join(self.coalition or ())
+        most = self.bound in MOST
         if self.limit is not None:
             bound = f"{SIGNS[self.bound]} {Fraction(self.limit)}"
             if team:
-                return f"Can {team}, whatever the others do, make sure that the probability is {bound} that {path}?"
-            return f"Is the probability {bound}, under every strategy, that {path}?"
+                return f"Can {team}, whatever the others do, make sure that the {asked} is {bound} {path}?"
+            return f"Is the {asked} {bound}, under every strategy, {path}?"
         if team:
             kind = "greatest" if most else "least"
-            return f"What is the {kind} probability that {team} can bring about, whatever the others do, that {path}?"
+            return f"What is the {kind} {asked} that {team} can bring about, whatever the others do, {path}?"
         kind = "greatest" if most == (self.coalition is None) else "least"
-        return f"What is the {kind} probability, over all strategies, that {path}?"
+        return f"What is the {kind} {asked}, over all strategies, {path}?"
+
+    def asked_words(self):
+        return "probability"
 
     def path_words(self):
         if self.path == "G":
-            return f"at every time {state_words(self.right)}"
+            return f"that at every time {state_words(self.right)}"
         steps = self.horizon()
         within = f"{'after' if self.path == 'X' else 'within'} {steps} step{'s' * (steps != 1)}"
-        reached = f"{'at some time' if steps is None else within} {state_words(self.right)}"
+        reached = f"that {'at some time' if steps is None else within} {state_words(self.right)}"
         return reached if self.left == TRUE else f"{reached}, and at each time before {state_words(self.left)}"
 
 

@@ -18,6 +18,8 @@ TRUTHS = {"True": True, "False": False}
 
 REPORT = re.compile(r"state ([0-9]+) lower (\S+) upper (\S+) .* (\w+)")
 
+CERTIFICATE = re.compile("^(certificate|rewards) ", re.M)
+
 Ended = namedtuple("Ended", "status output errors")
 
 
@@ -47,12 +49,12 @@ ASKERS = {"check": ["check"], "traps": ["check", "--traps"], "solve": ["solve"]}
 
 
 def certificate_by(asker, question):
-    """The text of a certificate for a question, the words `TRA LAB FORMULA [--own FILE]`;
-    refused with the line of who made none."""
+    """The text of a certificate for a question, the words `TRA LAB FORMULA [--own FILE] [--rewards FILE]`; refused with
+    the line of who made none."""
     command, *options = ASKERS[asker]
     workers = ["--workers", "1"] if command == "check" else []
     ended = run(program(), command, *question, "--plan", *options, *workers)
-    if "certificate " not in ended.output:
+    if not CERTIFICATE.search(ended.output):
         raise Refusal(asker, None, first_line(ended), status_of(ended))
     return ended.output
 

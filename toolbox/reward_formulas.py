@@ -3,12 +3,12 @@
 Who maximises is as of a probability. A formula may name the structure of the rewards, as `R{"cost"}max=? [ F x ]`.
 """
 
-from dataclasses import dataclass
+from dataclasses import dataclass, replace
 from fractions import Fraction
 from typing import Optional
 
 from toolbox.explicit import MOST_DENOMINATOR, number_of
-from toolbox.formulas import TRUE, CertifiableReader, Formula, Spelt
+from toolbox.formulas import TRUE, CertifiableReader, Formula, Spelt, state_words
 from toolbox.rewards import MOST_REWARD
 
 
@@ -21,6 +21,16 @@ class RewardFormula(Formula):
     def bound_text(self):
         name = "" if self.name is None else f'{{"{self.name}"}}'
         return f"R{name}{self.bound[1:]}=?" if self.limit is None else f"R{name}{self.bound}{self.limit}"
+
+    def certified(self):
+        """What a certificate of this formula is of. The name means nothing there."""
+        return replace(super().certified(), name=None)
+
+    def asked_words(self):
+        return "expected reward" if self.name is None else f'expected reward "{self.name}"'
+
+    def path_words(self):
+        return f"before {state_words(self.right)}"
 
 
 class RewardReader(CertifiableReader):

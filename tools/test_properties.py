@@ -7,7 +7,8 @@ from toolbox.dialects import NoSpelling, Surroundings, plain, renamed, rewritten
 from toolbox.testing import EXAMPLES, SAMPLES, InFolder, call_tool, load, needs_program
 
 DEFINED = {"bad": 'x>1 | "a"', "a": "x=7", "round": 'x=1 & "round"', "done": "(s=7) & done"}
-CHAIN = Surroundings({"N": "5", "p": "0.9"}, ["p0"], {"a", "s_eq_7_and_done"}, True, DEFINED)
+REWARDS = {"time": "time.rewards", "": "plain.rewards"}
+CHAIN = Surroundings({"N": "5", "p": "0.9", "T": "true"}, ["p0"], {"a", "s_eq_7_and_done"}, True, DEFINED, REWARDS)
 GAME = Surroundings({}, ["p1", "anna"], {"a"}, False)
 
 # a property of a Markov chain, and the formula here, marked where its True is False or its bounds are 1 less
@@ -49,10 +50,27 @@ REWRITTEN = [
     ("P=? [ (s=7)&done U !(s=7 & done) ]", 'Pmax=? [ "s_eq_7_and_done" U !("s=7" & "done=true") ]', ""),
 ]
 
+# a property of rewards, the formula here and the file
+REWRITTEN_REWARDS = [
+    ('R{"time"}=? [ F "a" ]', 'R{"time"}max=? [ F "a" ]', "time.rewards"),
+    ('R{"time"}min=? [ F !"a" ]', 'R{"time"}min=? [ F !"a" ]', "time.rewards"),
+    ('Rmin=? [ F "a" ]', 'R{"time"}min=? [ F "a" ]', "time.rewards"),
+    ('R{2}>=11/3 [ F "a" ]', 'R>=11/3 [ F "a" ]', "plain.rewards"),
+    ('R{"time"}max>N [ F "a" ]', '<<p0>> R{"time"}>5 [ F "a" ]', "time.rewards"),
+    ('<<1>> R{2}max=? [ F "a" ]', '<<p1>> Rmax=? [ F "a" ]', "plain.rewards"),
+    ('[[1]] R{2}>=2.5 [ F "a" ]', '<<p1>> R<2.5 [ F "a" ]', "plain.rewards"),
+]
+
 # a property, and a part of why it has no spelling
 REFUSED = [
-    ('R{"time"}=? [ F "a" ]', "rewards (R)"),
-    ("Rmin=? [ C<=5 ]", "rewards (Rmin)"),
+    ('R{"cost"}=? [ F "a" ]', 'no file of the rewards "cost"; give it by --rewards cost=FILE'),
+    ('R{3}=? [ F "a" ]', "no file of the rewards 3; give it by --rewards FILE"),
+    ('R=? [ F<=5 "a" ]', "rewards with a bound on the steps"),
+    ('R=? [ Fc "a" ]', "Fc: rewards that are paid where no goal is reached; here they are infinite"),
+    ('R=? [ F P>0 [ F "a" ] ]', "a formula inside one of rewards"),
+    ('P>0 [ F R>0 [ F "a" ] ]', "rewards (R) inside a formula"),
+    ('R>1e16 [ F "a" ]', "a threshold above 10^15"),
+    ("Rmin=? [ C<=5 ]", "cumulative rewards (C)"),
     ('S>=0.5 [ "a" ]', "the steady state (S)"),
     ('multi(P>=0.5 [ F "a" ], P>=0.5 [ F "b" ])', "several objectives"),
     ('P=? [ F "a" || F "b" ]', "a conditional probability"),
@@ -64,6 +82,8 @@ REFUSED = [
     ('P=? [ F<=1.5 "a" ]', "3/2 is no number of steps"),
     ('P=? [ F<0 "a" ]', "-1 is no number of steps"),
     ('P>=1.5 [ F "a" ]', "3/2 is no probability"),
+    ('P>=1/0 [ F "a" ]', "1/0 is no number"),
+    ('R<=T/2 [ F "a" ]', "true/2 is no number"),
     ('P>=M [ F "a" ]', "the constant M has no value; give it by --const M=.."),
     ('P>=1 [ F Pmax=? [ F "a" ] ]', "only thresholds stand there"),
     ('A [ F "a" ]', "paths of probability 0 count"),
@@ -79,7 +99,7 @@ REFUSED = [
     ('P=? [ F "a" ] x', "'x' behind the formula"),
     ('P>0 [ F "a" ] & P>0 [ F "b" ]', "'&' behind the formula; ask each property by itself"),
     ('P=? [ F "a b" ]', "no token"),
-    ('"a"', "a property begins with P, a coalition or a quantifier"),
+    ('"a"', "a property begins with P, R, a coalition or a quantifier"),
 ]
 
 # texts of files, and the line and the cause that ends the reading of all
@@ -135,6 +155,12 @@ class Dialects(unittest.TestCase):
                 self.assertEqual(
                     (made.formula, made.negated, made.mirrored), (formula, mark == "negated", mark == "mirrored")
                 )
+
+    def test_rewards(self):
+        for text, formula, file in REWRITTEN_REWARDS:
+            with self.subTest(text=text):
+                made, _ = rewritten(text, CHAIN)
+                self.assertEqual((made.formula, made.rewards), (formula, file))
 
     def test_refused(self):
         for text, cause in REFUSED:
@@ -231,7 +257,8 @@ class Files(InFolder):
         words = [tra, lab, props, "--own", own, "--sta", sta, "--const", "K=1", "--json"]
         status, output, errors = call_tool("properties", *words)
         made = json.loads(output)
-        self.assertEqual((status, errors), (4, f"properties: {props}: line 7: rewards (R): there is none here\n"))
+        cause = 'no file of the rewards "steps"; give it by --rewards steps=FILE'
+        self.assertEqual((status, errors), (4, f"properties: {props}: line 7: {cause}\n"))
         self.assertEqual([one["line"] for one in made], [4, 5, 6, 7])
         self.assertEqual([one["name"] for one in made], ["reach", None, "soon", None])
         self.assertEqual([one["states"][0]["lower"] for one in made[:3]], ["0.650000000000000"] * 3)

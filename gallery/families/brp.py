@@ -14,6 +14,8 @@ Value: a try fails with f = 1 - 0.98 * 0.99, a frame with g = f ^ (RETRIES + 1).
 1 - (1 - g) ^ FRAMES (`p1` of the study), that it does not know, where only the last frame fails, with g (1 - g) ^
 (FRAMES - 1) (`p2`); and it reports anything while the receiver got nothing where each try of the first frame is lost:
 0.02 ^ (RETRIES + 1) (`p4`).
+
+Expected tries: (1 - g) / (1 - f) for a frame that is begun, and the i-th is begun with (1 - g) ^ (i - 1).
 """
 
 from fractions import Fraction
@@ -174,6 +176,11 @@ def questions(frames, retries):
         yield ask("Pmax=?", goal, value, CLOSED, published=known)
     yield ask("P<=0.001", "error", values["error"], CLOSED)
     yield sure("P>=1", "settled", value=1, source=CLOSED)
+
+
+def rewards(*_):
+    """A frame that is given to its channel."""
+    return {"tries": lambda state, after: state.frames == IDLE and after.frames != IDLE}
 
 
 def known_as(frames, retries):

@@ -85,3 +85,7 @@ def questions(blocks):
     yield ask("P>=0.99", "home", home, CLOSED, coalition=("car",))
     yield ask("Pmax=?", "home", unjammed, CLOSED, coalition=("car",), safe="!jammed")
     yield sure("Pmax=?", "home", coalition=("car",))
+
+
+def rewards(_):
+    return {"roads": lambda state, after: state[0] == "at"}

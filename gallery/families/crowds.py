@@ -13,7 +13,8 @@ twice. On each path the sender, member 0, hands the message to any member, and e
 Value: the i-th to get the message is the first collaborator with (c/n) a^(i-1), a = (3/4)(n-c)/n, and then sees the
 sender surely for i = 1, else with 1/(n-c). So somebody is seen with h = (c/n)/(1-a), the sender with s = h - h a
 (n-c-1)/(n-c), and the first to be seen is the sender with s/h = 1 - (3/4)(n-c-1)/n, the source's formula. On PATHS
-paths that comes with (s/h)(1 - (1-h)^PATHS), and the sender is seen so often as a coin with s falls on its side.
+paths that comes with (s/h)(1 - (1-h)^PATHS), and the sender is seen so often as a coin with s falls on its side. Until
+it is seen twice there are 2 / s paths on average.
 """
 
 from fractions import Fraction
@@ -76,3 +77,7 @@ def questions(members, collaborators, paths):
     yield ask("Pmax=?", "sender_seen", first, CLOSED, safe="!other_seen")
     yield ask("Pmax=?", "twice", twice, CLOSED)
     yield ask("P<0.1", "twice", twice, CLOSED)
+
+
+def rewards(*_):
+    return {"paths": lambda state, after: state[1] == "begin"}

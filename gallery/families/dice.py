@@ -13,6 +13,8 @@ Value: computed in fractions by strategy iteration for both players. With one th
 keep it from winning b answers 6, 5 and 4 boldly and the rest steadily, so a wins with (1/2 + 1/2 + 1/2 + 2/6 + 1/6 +
 0) / 6 = 1/3, and with 1/4 if it throws boldly. To win itself b answers 3 and more boldly, so it wins with (0 + 1/2 +
 1/2 + 1/2 + 4/6 + 5/6) / 6 = 1/2, and with 1/2 too if a throws boldly.
+
+Expected points: the steady die throws 3.5 and the bold one 3. So who wants many gets 3.5 and who wants few gives 3.
 """
 
 from fractions import Fraction
@@ -51,3 +53,7 @@ def questions(throws):
     yield ask("Pmax=?", "!b_wins", coalition=("a",), path="G")
     yield ask("P>=0.5", "b_wins", coalition=("b",))
     yield sure("P>=1", "over", value=1, source=CLOSED)
+
+
+def rewards(_):
+    return {"points": lambda state, after: abs(after[1] - state[1])}

@@ -65,3 +65,7 @@ def questions(rows, columns):
     yield ask("P>=0.9", "found_whole", coalition=("robot",))
     yield ask("Pmax=?", "found", source=BACKWARD, coalition=("robot",), steps=4 * (rows + columns))
     yield sure("Pmax=?", "found", coalition=("robot",))
+
+
+def rewards(*_):
+    return {"moves": lambda state, after: state[3] == "robot"}

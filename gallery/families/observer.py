@@ -69,3 +69,7 @@ def questions(side, sight):
     yield ask("Pmax=?", "caught", coalition=("observer",))
     yield ask("Pmax=?", "out_with_item", coalition=("intruder", "observer"))
     yield sure("Pmax=?", "out_with_item", coalition=("intruder", "observer"))
+
+
+def rewards(*_):
+    return {"moves": lambda state, after: state[3] == "intruder"}

@@ -16,6 +16,8 @@ again, and each toss falls either way. There nobody tosses but between a left ne
 who drew left, since else a draw leaves two neighbours of whom the first to reach for the fork between them eats. But
 then, going round, somewhere one who drew left sits beside one who drew right, with the same end. Without coins 0: all
 hold their left forks, and one after the other fails and takes it again.
+
+Expected moves: 3 at least, where one philosopher moves alone. At most infinitely many without coins.
 """
 
 
@@ -58,6 +60,10 @@ def questions(philosophers, coins):
     yield ask("Pmin=?", "eats", coins, CLOSED)
     yield ask("P>=1", "eats", coins, CLOSED)
     yield sure("Pmin=?", "eats", value=coins, source=CLOSED)
+
+
+def rewards(*_):
+    return {"moves": lambda state, after: state != "eats"}
 
 
 def known_as(philosophers, coins):

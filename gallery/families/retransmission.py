@@ -13,7 +13,7 @@ alternating bit and the receiver are left out, since the sender's end does not d
 Value: a try fails with f = 1 - 0.98 * 0.99 = 0.0298, a frame with f ^ (RETRIES + 1), and the file where some frame
 does: 1 - (1 - f ^ (RETRIES + 1)) ^ FRAMES. A lost frame takes 2 steps, a lost acknowledgement 3. So within 2 FRAMES
 steps nothing may be lost, (1 - f) ^ FRAMES; within 3 more one thing, FRAMES f times as much besides; and within 2
-(RETRIES + 1) steps only frames can have failed.
+(RETRIES + 1) steps only frames can have failed. The expected tries are those of `brp.py`.
 """
 
 
@@ -58,6 +58,10 @@ def questions(frames, retries):
     yield ask("Pmax=?", "done", at_once * (1 + frames * failed_try), CLOSED, steps=2 * frames + 3)
     yield ask("Pmax=?", "given_up", FRAME_LOST ** (retries + 1), CLOSED, safe="first", steps=shortest)
     yield ask("P>=0.9999", "!given_up", 1 - failed, CLOSED, path="G")
+
+
+def rewards(*_):
+    return {"tries": lambda state, after: state not in ("done", "given up") and state[2] == "frame"}
 
 
 def known_as(frames, retries):

@@ -73,3 +73,7 @@ def questions(side, seed):
     way = ask("P>=3/4" if side <= FEW else "P>=3/8", "goal", coalition=(ONLY_PLAYER,))
     yield ask("Pmax=?", "goal", safe=way)
     yield ask("Pmax=?", way, path="G")
+
+
+def rewards(*_):
+    return {"moves": lambda field, after: True}

@@ -15,6 +15,9 @@ so max plays: 1/2. In the two rooms the upper values 0.9 hold each other up, sin
 that stalling wins nothing brings them down. Within m tosses the play is won with h(STAKE) - h(3 STAKE) + h(5 STAKE) -
 .., by repeated reflection, where h(a) = P(S >= a) + P(S > a) is the chance that the sum of tosses is a within m of
 them; S is their sum after all m. One step leads to the play.
+
+Expected tosses: the play takes STAKE squared, as the fair game does (Feller). Who wants few tosses pays where it may,
+and who wants many never does; so there are as many whichever side each player is on.
 """
 
 from fractions import Fraction
@@ -61,3 +64,7 @@ def questions(stake):
     yield ask("P>=0.5", "won", HALF, CLOSED, coalition=("max",), options=rounds)
     for bound, tosses in (("Pmax=?", stake**2), ("P>0.6", 4 * stake**2)):
         yield ask(bound, "won", won_within(stake, tosses), CLOSED, coalition=("max",), steps=tosses + 1)
+
+
+def rewards(stake):
+    return {"tosses": lambda state, after: isinstance(state, int) and 0 < state < 2 * stake}

@@ -17,6 +17,8 @@ For other hits these are computed backward.
 
 A is the last one with 0.3 without help where it shoots at one other: 0.3 against B, 6/13 against C. A alone comes there
 with 0.3 * 0.5, since it has to hit B, and C then to miss; and beside C, which shoots into the air, with 0.3.
+
+Expected turns, with A and B together: C is hit in the second turn, and then A has every other one: 1 + 2 / 0.3 = 23/3.
 """
 
 from fractions import Fraction
@@ -95,3 +97,8 @@ def questions_of_turns(known):
         yield ask("Pmax=?", ahead, *answer, coalition=tuple(coalition))
     answer = (Fraction(17, 20), CLOSED) if known else (None, COMPUTED)
     yield ask("Pmax=?", ("!", ahead), *answer, coalition=("b", "c"), path="G")
+
+
+def rewards(*_):
+    """A turn, of one who shoots into the air too."""
+    return {"turns": lambda state, after: len(state[0]) > 1}

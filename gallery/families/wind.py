@@ -56,3 +56,7 @@ def questions(side, seed):
     way = ask("P>=3/8", "goal", coalition=("robot",))
     yield ask("Pmax=?", "goal", coalition=("robot",), safe=way)
     yield ask("Pmax=?", way, coalition=("robot",), path="G")
+
+
+def rewards(*_):
+    return {"moves": lambda state, after: state[1] == "robot"}

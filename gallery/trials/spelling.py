@@ -6,7 +6,7 @@ BLANKS, ENDS = (" ", " ", " ", "  ", "\t", " \t "), ("\n", "\n", "\n", "\r\n")
 
 
 def spelt_number(draw, number):
-    """A probability as a fraction or, where it has one, as a decimal, with or without an exponent."""
+    """A number as a fraction or, where it has one, as a decimal, with or without an exponent."""
     number = Fraction(number)
     if 10**6 % number.denominator or draw.random() < 0.2:
         times = draw.choice((1, 1, 2, 10, 10**6))
@@ -14,7 +14,7 @@ def spelt_number(draw, number):
     whole = f"{int(number * 10**6):07}"
     plain = f"{'0' * draw.choice((0, 0, 2))}{whole[:-6]}.{whole[-6:].rstrip('0')}"
     small = f"{int(number * 10**6)}{draw.choice('eE')}-{draw.choice(('6', '06', '006'))}"
-    great = f"0.00{whole}{draw.choice(('e3', 'E+3'))}"
+    great = f"0.00{whole}{draw.choice(('e', 'E+'))}{len(whole) - 4}"
     return draw.choice((plain, plain, plain.rstrip("."), small, great))
 
 

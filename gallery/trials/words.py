@@ -10,8 +10,10 @@ from pathlib import Path
 from answers import checked, read_files
 from audits import audited
 from core import Found, run
+from paid import ENDINGS, paid_audit, posed
 from sure import listed
 from texts import Refusal
+from toolbox.reward_certificates import certificate_of, certificate_text
 from workers import kept, made
 
 COUNT, MANY, FEW = 400, 10_000, 100
@@ -25,8 +27,8 @@ REFUSED = re.compile("stogame: [^\n]+; commands: check, audit, solve, make, sure
 PLACES = {"check": "tlf", "audit": "tlfc", "solve": "tlf", "sure": "tlf", "make": "sn"}
 OPTIONS = {
     "check": ("--own", "--rounds", "--workers", "--plan", "--traps"),
-    "audit": ("--own",),
-    "solve": ("--own", "--values", "--plan"),
+    "audit": ("--own", "--rewards"),
+    "solve": ("--own", "--values", "--plan", "--rewards"),
     "sure": ("--own",),
     "make": ("--rounds", "--workers"),
 }
@@ -37,15 +39,18 @@ FORMULAS = (
     *('<<p1>> Pmax=? [ F "goal" ]', 'Pmin=? [ F "goal" ]', f"<<p1>> {THRESHOLD}", '<<p2>> Pmin=? [ G !"goal" ]'),
     *('P>=0.5 [ X "goal" ]', 'Pmax=? [ F "gaol" ]', "", "-"),
 )
+PAID_FORMULAS = ('<<p1>> Rmin=? [ F "goal" ]', 'Rmax=? [ F "goal" ]', 'R{"x"}<=1/3 [ F "goal" ]', FORMULAS[0])
 RIGHT = {
     **{"t": ("g.tra",), "l": ("g.lab",), "f": FORMULAS, "c": ("certificate", "bad"), "--own": ("g.own",)},
     **{"--rounds": ("0", "0", "1", "3", "+2", "007", "1000000"), "--workers": ("1", "1", "1", "+1", "4", "64")},
     **{"s": ("1", "7", "+42", "2147483646"), "n": ("3", "5", "008"), "--values": ("bad", "values")},
+    "--rewards": ("paid", "paid", "bad"),
 }
+RIGHT_PAID = {"f": PAID_FORMULAS, "c": ("granted", "granted", "certificate", "bad")}
 WRONG = ("", "-1", "+", "1.0", "0x1", "4294967296", "1000001", "65", "2147483647", "2", "-0", "x", " 1", "١")
 ODD = (
     *("", "-", "--", "--", "--help", "-h", "--plan=", "--plan=true", "--pla", "--own", "--rounds=1", "--traps"),
-    *("--plan", "---", "x", "--workers"),
+    *("--plan", "---", "x", "--workers", "--rewards", "--rewards="),
 )
 
 
@@ -55,7 +60,9 @@ def trial(draw, room):
     texts = [(EXAMPLES / f"to_and_fro.{ending}").read_text(encoding="ascii") for ending in ("tra", "lab", "own")]
     certificate = checked(read_files(*texts), FORMULAS[0], 3, True)[1]
     contents = dict(zip(("g.tra", "g.lab", "g.own", "certificate"), (*texts, certificate)))
-    contents.update({"bad": "\n\n0 0\n", "values": "0.7\n" * 5})
+    contents.update({"bad": "\n\n0 0\n", "values": "0.7\n" * 5, "paid": "rewards 5 2\n0 1\n1 0 1/3\n"})
+    right = posed({**dict(zip(ENDINGS, (*texts, contents["paid"]))), "formula": PAID_FORMULAS[0]})
+    contents["granted"] = certificate_text(certificate_of(right.problem, right.rewards, 3))
     for name, text in contents.items():
         (room / name).write_text(text, encoding="ascii")
     words = drawn_words(draw)
@@ -74,12 +81,15 @@ def trial(draw, room):
 def drawn_words(draw):
     """The words of a command, of which some may be left out, wrong, odd, or twice there."""
     command = draw.choice((*PLACES, "check", "check"))
-    groups = [[draw.choice(RIGHT[place])] for place in PLACES[command]]
-    for option in OPTIONS[command]:
-        if draw.random() < (0.8 if option == "--own" else 0.4):
-            value = draw.choice(RIGHT.get(option, ("",)))
-            group = [option] if option in FLAGS else draw.choice(([option, value], [f"{option}={value}"]))
-            groups.insert(draw.randint(0, len(groups)), group)
+    is_paid = draw.random() < (0.4 if "--rewards" in OPTIONS[command] else 0.05)
+    right = {**RIGHT, **(RIGHT_PAID if is_paid else {})}
+    groups = [[draw.choice(right[place])] for place in PLACES[command]]
+    shares = {"--own": 0.8, "--rewards": 0.1, "--values": 0.1 if is_paid else 0.4}
+    drawn = [option for option in OPTIONS[command] if draw.random() < shares.get(option, 0.4)]
+    for option in (*drawn, *["--rewards"] * is_paid):
+        value = draw.choice(right.get(option, ("",)))
+        group = [option] if option in FLAGS else draw.choice(([option, value], [f"{option}={value}"]))
+        groups.insert(draw.randint(0, len(groups)), group)
     words = [command, *(word for group in groups for word in group)]
     for _ in range(draw.choice((0, 0, 1, 1, 2))):
         place, kind = draw.randint(1, len(words)), draw.random()
@@ -115,6 +125,8 @@ def reading(words):
             options[name] = value
             waiting = None if equals or name in FLAGS else name
     asked = {**dict(zip(PLACES[words[0]], places)), **options}
+    if {"--values", "--rewards"} <= set(options):
+        return None
     if waiting or len(places) != len(PLACES[words[0]]) or not all(is_right(*said) for said in asked.items()):
         return None
     return {"command": words[0], **asked}
@@ -131,7 +143,7 @@ def is_right(name, value):
 def compare_answer(found, room, words, asked, contents):
     """Compares the run with what these words ask for."""
     status, output, errors = run(room, *words)
-    names = [asked[name] for name in ("t", "l", "--own", "c", "--values") if name in asked]
+    names = [asked[name] for name in ("t", "l", "--own", "--rewards", "c", "--values") if name in asked]
     missing = [name for name in names if name not in contents]
     if missing:
         fine = (status, output, errors) == (5, "", f"stogame: cannot read {missing[0]}: no such file or directory\n")
@@ -151,6 +163,8 @@ def expected(room, asked, contents):
     if asked["command"] == "make":
         return made(int(asked["s"]), int(asked["n"]), min(rounds, MANY))
     try:
+        if "--rewards" in asked:
+            return paid_answer(room, asked, contents)
         files = read_files(*(contents[asked[name]] for name in ("t", "l", "--own") if name in asked))
         if asked["command"] == "check":
             return checked(files, asked["f"], min(rounds, MANY), "--plan" in asked, "--traps" in asked)
@@ -163,7 +177,18 @@ def expected(room, asked, contents):
         return 8 if str(refusal).startswith("cert ") else 4, f"refused {refusal}\n"
 
 
+def paid_answer(room, asked, contents):
+    """The status and the output of a command on expected rewards."""
+    places = zip(ENDINGS, ("t", "l", "--own", "--rewards"))
+    texts = {ending: contents[asked[name]] for ending, name in places if name in asked}
+    texts["formula"] = asked["f"]
+    if asked["command"] == "audit":
+        return paid_audit(texts, contents[asked["c"]])
+    posed(texts)
+    return solved_plainly(room, asked)
+
+
 def solved_plainly(room, asked):
     """What `solve` writes of the same words in their plainest order."""
-    rest = [word for name in ("--own", "--values") if name in asked for word in (name, asked[name])]
+    rest = [word for name in ("--own", "--values", "--rewards") if name in asked for word in (name, asked[name])]
     return run(room, "solve", *rest, *["--plan"] * ("--plan" in asked), "--", asked["t"], asked["l"], asked["f"])[:2]

@@ -19,11 +19,11 @@ use Rattle.reward_reports.specs.Printed.{reward_lines_of, reward_status_of}
 -- The values of a certificate bound what the exact rewards are worth. Against its replies every strategy of the
 -- maximiser is expected to collect at most the upper value, and a goal is reached almost surely. Against its choices
 -- each strategy of the minimiser pays at least the lower value if it reaches a goal almost surely, and from a state of
--- infinite lower value none does so. `AreRewardBounds` says this with its multiples and limits. It holds over any
--- common denominator of the exact rewards, and there is one if none of their denominators is 0.
-abbrev pub IsSoundOver : ExactRewards → ℕ → Certificate → Type 0
-IsSoundOver exact places c =
-    (den : ℕ) (whole : Rewards) → ArePaid c.question exact den whole → IsSound (exact_of c places den whole)
+-- infinite lower value none does so. `AreRewardBounds` says this with its multiples and limits. The exact rewards
+-- have a common denominator, and it holds over each one.
+pub record IsSoundOver (exact : ExactRewards) (places : ℕ) (c : Certificate) : Type 0 where
+  pub exists : (den : ℕ) × (whole : Rewards) × ArePaid c.question exact den whole
+  pub each : (den : ℕ) (whole : Rewards) → ArePaid c.question exact den whole → IsSound (exact_of c places den whole)
 
 -- A certificate for a question is accepted over exact rewards that are rounded both ways, in units of so many places,
 -- and so it is sound over the exact ones.

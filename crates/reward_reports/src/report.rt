@@ -19,7 +19,7 @@ use game_outside::OutOfMemory;
 use output::Answer;
 use reward_check::RewardTables;
 use reward_formula::RewardBound;
-use reward_units::laws::accepted_bounds_are_exact;
+use reward_units::laws::{accepted_bounds_are_exact, rewards_of_a_file_have_a_denominator};
 use reward_verdicts::laws::reward_verdicts_are_right;
 use reward_verdicts::reward_report_text;
 use rewards_reader::RewardTable;
@@ -76,8 +76,10 @@ pub fn reward_report_of(
         answer.text.items answer.status) }
     ensures answer { IfOk result (λ answer. IsAnswer answer.status) }
 {
-    // These calls do nothing: they recall what numbers a line may name, and four laws.
+    // These calls do nothing: they recall what numbers a line may name, that the rewards are amounts, and five laws.
     known_count(how);
+    rewards.invariant();
+    rewards_of_a_file_have_a_denominator();
     accepted_bounds_are_exact();
     accepted_bounds_are_in_order();
     reward_verdicts_are_right();

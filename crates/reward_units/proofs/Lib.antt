@@ -6,3 +6,4 @@ pub mod Capped
 pub mod Grows
 pub mod Bounds
 pub mod Listed
+pub mod Files

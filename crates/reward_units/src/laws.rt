@@ -1,17 +1,19 @@
 //! These are laws of rewards in units. Each function does nothing; its contract is the law.
 
-ghost use Rattle.std.specs.Prelude.{◌≡◌, ℕ, ◌+◌, ◌*◌, ◌^◌, ◌<◌, ◌≤◌, ◌↔◌, false, length, []};
+ghost use Rattle.std.specs.Prelude.{◌≡◌, ℕ, ◌+◌, ◌*◌, ◌^◌, ◌<◌, ◌≤◌, ◌↔◌, false, length, List, [], Option};
 ghost use Rattle.game_model.specs.Game.{choices_of};
 ghost use Rattle.game_model.specs.Limits.{unit};
 ghost use Rattle.game_model.specs.Query.{Query, IsQuery, states, is_dead};
 ghost use Rattle.fractions.specs.Fraction.{Fraction, SameValue};
 ghost use Rattle.strategies.specs.Strategies.{Strategy};
 ghost use Rattle.expected_rewards.specs.Rewards.{Rewards, expected};
+ghost use Rattle.rewards_reader.specs.Amounts.{AreAmounts};
 ghost use Rattle.reward_check.specs.Certificates.{Certificate, IsSound};
 ghost use Rattle.reward_check.specs.Parts.{IsAccepted};
 ghost use Rattle.reward_units.specs.Units.{most_places, most_units, units_below, units_above};
 ghost use Rattle.reward_units.specs.Exact.{ExactRewards, HaveDenominators, ArePaid, AreRounded, HaveValues};
 ghost use Rattle.reward_units.specs.Exact.{uncapped, exact_of};
+ghost use Rattle.reward_units.specs.Rounded.{exact_in};
 
 use crate::limits::{MOST_PLACES, MOST_UNITS};
 use expected_rewards::laws::expected_grows;
@@ -45,11 +47,17 @@ pub fn units_go_by_value()
         units_above f places ≡ units_above g places }
 {}
 
-/// Exact rewards have a common denominator, over which each turn is paid a whole number. So the laws that ask for one
-/// speak of all exact rewards.
+/// Exact rewards have a common denominator, over which each turn is paid a whole number.
 pub fn exact_rewards_have_a_denominator()
     ensures { (q : Query) (exact : ExactRewards) → HaveDenominators q exact →
         (den : ℕ) × (whole : Rewards) × ArePaid q exact den whole }
+{}
+
+/// The rewards of a file have a common denominator, since each entry of their table is an amount. So the laws that ask
+/// for one speak of the rewards of every file.
+pub fn rewards_of_a_file_have_a_denominator()
+    ensures { (q : Query) (table : List (Option Fraction)) → AreAmounts table →
+        (den : ℕ) × (whole : Rewards) × ArePaid q (exact_in q.game table) den whole }
 {}
 
 /// Rewards that are all multiplied by a number give expectations that are multiplied by it.

@@ -1,6 +1,6 @@
 -- These definitions give the rewards that texts spell. A reward is spelled as a probability is, but it may be greater.
 use Rattle.std.specs.Prelude.{◌≡◌, ℕ, false, ◌*◌, ◌==◌, ◌≤◌, nat_lt, List, Option, Some, None, Result, Ok, Err}
-use Rattle.std.specs.Prelude.{if◌then◌else◌}
+use Rattle.std.specs.Prelude.{if◌then◌else◌, All, unwrap_or}
 use Rattle.std.specs.Int.{IsGcd}
 use Rattle.fractions.specs.declared.number.NumberFault.TheVariants.{NotANumber, TooManyDigits, ZeroDenominator, TooFine}
 use Rattle.fractions.specs.Fraction.{Fraction, SameValue, lowest}
@@ -30,6 +30,10 @@ pub record DenotesAmount (text : List ℕ) (f : Fraction) : Type 0 where
 -- This is the reward 0.
 abbrev pub no_reward : Fraction
 no_reward = record { num = 0; den = 1 }
+
+-- Each entry of a table is an amount. An entry that has none counts as the reward 0.
+pub record AreAmounts (table : List (Option Fraction)) : Type 0 where
+  pub each : All (λ entry. IsAmount (unwrap_or entry no_reward)) table
 
 -- This is a fraction in lowest terms if it may be a reward, or its first fault.
 abbrev pub amount_within : Fraction → Result Fraction RewardsCause

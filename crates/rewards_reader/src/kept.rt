@@ -2,6 +2,7 @@
 
 ghost use Rattle.std.specs.Prelude.{◌≡◌, ◌<◌, ◌≤◌, ◌+◌, length, replicate, slice_index_or, slice_set, is_some, IfOk, None};
 ghost use Rattle.game_model.specs.Game.{choices_below};
+ghost use Rattle.rewards_reader.specs.Amounts.{AreAmounts};
 ghost use Rattle.rewards_reader.specs.Limits.{most_lines};
 
 use crate::amount::Amount;
@@ -23,6 +24,7 @@ pub struct KeptLines<'g> {
     ghost many: { length entries.items ≡ choices_below game.now (length game.now) + length game.now },
     ghost few: { stated ≤ most_lines },
     ghost within: { count ≤ stated },
+    ghost amounts: { AreAmounts entries.items },
 }
 
 impl<'g> KeptLines<'g> {
@@ -119,6 +121,7 @@ impl<'g> KeptLines<'g> {
         ensures game { self.new.game.now ≡ self.old.game.now }
         ensures stated { self.new.stated ≡ self.old.stated }
     {
+        line.reward.invariant();
         let place = place_of(self.game, line.state, line.choice);
         self.entries[place] = Some(line.reward);
         self.count += 1;

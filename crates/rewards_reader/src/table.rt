@@ -2,7 +2,7 @@
 
 ghost use Rattle.std.specs.Prelude.{◌≡◌, ◌<◌, ◌≤◌, ◌+◌, ◌^◌, length, Some, None, slice_index_or, unwrap_or};
 ghost use Rattle.game_model.specs.Game.{choices_of};
-ghost use Rattle.rewards_reader.specs.Amounts.{no_reward};
+ghost use Rattle.rewards_reader.specs.Amounts.{AreAmounts, no_reward};
 ghost use Rattle.rewards_reader.specs.Rewards.{place_of, reward_in};
 
 use crate::amount::Amount;
@@ -19,18 +19,29 @@ pub struct RewardTable {
 impl Model for RewardTable {
     ghost use Rattle.std.specs.Prelude.{List, Option};
     ghost use Rattle.fractions.specs.Fraction.{Fraction};
+    ghost use Rattle.rewards_reader.specs.Amounts.{AreAmounts};
 
     ghost Value = { List (Option Fraction) };
 
     ghost view = { λ rewards. rewards.entries.items };
+
+    ghost invariant = { λ rewards. AreAmounts rewards.entries.items };
 }
 
 impl RewardTable {
     /// Makes the rewards of these entries.
     pub(crate) fn new(entries: Vec<Option<Amount>>) -> RewardTable
+        requires { AreAmounts entries.items }
         ensures { result ≡ entries.items }
     {
         RewardTable { entries }
+    }
+
+    /// Tells a proof what holds for every table. It does nothing.
+    pub fn invariant(&self)
+        ensures { AreAmounts self.now }
+    {
+        let _ = &self.entries;
     }
 
     /// Returns the reward of a state, which is 0 if no line gives one. The game is the one for which the rewards were

@@ -21,8 +21,11 @@ returns-clause-report c =
       values = have-values tables;
       rounded = both_ways;
       accepted = c.requires.accepted;
-      sound = λ den whole paid. c.accepted_bounds_are_exact.ensures (said tables) exact places den whole
-          tables.posed tables.alive tables.many_bounded paid both_ways (have-values tables) c.requires.accepted;
+      sound = record {
+        exists = c.rewards_of_a_file_have_a_denominator.ensures q c.args.rewards.now c.invariant.ensures;
+        each = λ den whole paid. c.accepted_bounds_are_exact.ensures (said tables) exact places den whole
+            tables.posed tables.alive tables.many_bounded paid both_ways (have-values tables) c.requires.accepted;
+      };
     } in
     reported (λ answer. answer.text.items) (λ answer. answer.status) q exact c.args.initial.now c.args.bound.now
     c.args.how places (said tables) certificate

@@ -1,4 +1,4 @@
-use Rattle.std.proofs.Common.{◌≡◌, ◌+◌, arith, length, subst, sym}
+use Rattle.std.proofs.Common.{◌≡◌, arith, length}
 use Rattle.game_model.specs.Game.{choices_of}
 use Rattle.reward_units.specs.Rounded.{exact_in, paid_units}
 use Rattle.reward_units.proofs.Listed.{paid-push, paid-end}
