@@ -162,9 +162,10 @@ line-passed : (places : ℕ) (line : RewardLine) → IsRewardLine line
     → IsPassedOverBy (codes "rewards") (codes "state" ++ 32 ∷ behind_state places line)
 line-passed places line is =
     let rest = behind_state places line in
-    let from : AreFrom 32 (codes "state" ++ 32 ∷ rest) =
+    let whole : List ℕ = codes "state" ++ 32 ∷ rest in
+    let from : AreFrom 32 whole =
     AreFrom-append 32 (codes "state ") rest (from_test (codes "state ") refl) (behind-from places line is) in
-    passed (codes "state") rest refl refl (from-HasNo _ from) (from-ends _ from)
+    passed (codes "state") rest refl refl (from-HasNo whole from) (from-ends whole from)
 
 -- 4. The line of the formula.
 
@@ -220,8 +221,9 @@ name-HasNo None is = tt
 name-HasNo (Some name) is =
     let bare : HasNo 10 (name ++ codes "\"") =
     HasNo-append name (codes "\"") (passing is_name_byte refl name is.bytes) (plain-HasNo (codes "\"") refl) in
-    HasNo-append (codes "{") _ (plain-HasNo (codes "{") refl)
-    (HasNo-append (codes "\"" ++ (name ++ codes "\"")) (codes "}")
+    let quoted : List ℕ = codes "\"" ++ (name ++ codes "\"") in
+    HasNo-append (codes "{") (quoted ++ codes "}") (plain-HasNo (codes "{") refl)
+    (HasNo-append quoted (codes "}")
     (HasNo-append (codes "\"") (name ++ codes "\"") (plain-HasNo (codes "\"") refl) bare)
     (plain-HasNo (codes "}") refl))
 
@@ -232,9 +234,11 @@ reward-HasNo f is =
     let team = coalition_spelling f.coalition in
     let path : List ℕ = codes " [ " ++ (codes "F" ++ (codes " " ++ (goal ++ codes " ]"))) in
     let whole : HasNo 10 (team ++ (codes "Pmax=?" ++ path)) = spelled-HasNo f is in
-    HasNo-append team _ (HasNo-front team (codes "Pmax=?" ++ path) whole)
-    (HasNo-append (codes "R") _ (plain-HasNo (codes "R") refl)
-    (HasNo-append (name_spelling f.name) _ (name-HasNo f.name is.name)
+    let asked : List ℕ = asks_spelling f.bound ++ goal_spelling goal in
+    let named : List ℕ = name_spelling f.name ++ asked in
+    HasNo-append team (codes "R" ++ named) (HasNo-front team (codes "Pmax=?" ++ path) whole)
+    (HasNo-append (codes "R") named (plain-HasNo (codes "R") refl)
+    (HasNo-append (name_spelling f.name) asked (name-HasNo f.name is.name)
     (HasNo-append (asks_spelling f.bound) (goal_spelling goal) (asks-HasNo f.bound is.amount)
     (HasNo-back (codes "Pmax=?") path (HasNo-back team (codes "Pmax=?" ++ path) whole)))))
 
