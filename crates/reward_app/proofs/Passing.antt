@@ -27,7 +27,7 @@ use Rattle.verdicts.specs.declared.report.How.{How}
 use Rattle.verdicts.specs.declared.report.How.TheVariants.{Rounds, Steps, Audited, Solved}
 use Rattle.verdicts.specs.Report.{HasCount, how_text, verdict_text}
 use Rattle.output.proofs.PlainParts.{HasPlainParts}
-use Rattle.output.proofs.NoLineFeed.{IsEnded, formula-ended}
+use Rattle.output.proofs.NoLineFeed.{formula-ended}
 use Rattle.reward_values.specs.Values.{IsValue, value_text}
 use Rattle.reward_verdicts.specs.declared.report.RewardLine.{RewardLine}
 use Rattle.reward_verdicts.specs.Report.{IsRewardLine, labelled_value, reward_line_text, reward_report}

@@ -1,5 +1,5 @@
 -- What `solve` writes of expected rewards is a certificate that an audit accepts.
-use Rattle.std.proofs.Common.{◌≡◌, ◌∙◌, ◌≤◌, ◌++◌, ℕ, true, List, length, Ok, All, ap, subst, arith}
+use Rattle.std.proofs.Common.{◌≡◌, ◌∙◌, ◌++◌, ℕ, true, List, length, Ok, All, ap, arith}
 use Rattle.std.proofs.lemmas.List.Elements.{All-weaker}
 use Rattle.std.proofs.lemmas.List.FromFn.{length-map-range_with_len}
 use Rattle.output.specs.declared.status.Status.{Status}
@@ -35,8 +35,12 @@ solved-accepted read_back certificates question text status spelled is =
     All-weaker (IsRightLine question.formula.bound places) IsRewardLine (λ line right. right.fits) lines
     is.report.lines in
     let said = read-behind read_back places lines question.formula entries fit spelled is.report.certificate.fine
-    (omega (arith, length-map-range_with_len (reward_entry_at is.plan) 0 n, is.lists.lower,
-    is.report.certificate.posed.game.few)) is.entries is.bounds in
+    (omega (
+      arith,
+      length-map-range_with_len (reward_entry_at is.plan) 0 n,
+      is.lists.lower,
+      is.report.certificate.posed.game.few,
+    )) is.entries is.bounds in
     let written = is.written ∙ ap (λ (t : List ℕ). t ++ certificate_part true question.formula is.plan)
     is.report.written in
     record {
