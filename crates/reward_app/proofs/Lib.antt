@@ -4,3 +4,4 @@ pub mod Endings
 pub mod Passing
 pub mod Entries
 pub mod Saved
+pub mod AuditedAlike
