@@ -19,8 +19,9 @@ use reward_text::laws::{reward_certificates_are_read_back, reward_certificates_a
 /// the same question accepts: it is read again as the plan of the solver, and passes every part of the check. The
 /// report of the audit has the bounds and the verdicts of the solver, and so its status.
 pub fn saved_rewards_are_accepted()
-    ensures accepted { (holding : Option Holding) (asked : Asked) (name : List ℕ) (question : RewardQuestion) (text : List ℕ)
-        (status : Status) → AsksIt holding asked name question → (is : IsRewardSolved question true text status)
+    ensures accepted { (holding : Option Holding) (asked : Asked) (name : List ℕ) (question : RewardQuestion)
+        (text : List ℕ) (status : Status) → AsksIt holding asked name question
+        → (is : IsRewardSolved question true text status)
         → IsAcceptedText question.posing.question (exact_by question is.table) text is.plan is.certificate }
     ensures audited { (holding : Option Holding) (asked : Asked) (name : List ℕ) (question : RewardQuestion)
         (text : List ℕ) (status : Status) → AsksIt holding asked name question
