@@ -1,9 +1,9 @@
 -- The certificate of an audit, from its text, and that of a solver.
-use Rattle.std.proofs.Common.{◌≡◌, ◌++◌, ℕ, Bool, List, Option, Result, Ok, Err, arith}
+use Rattle.std.proofs.Common.{◌≡◌, ◌<◌, ◌≤◌, ◌++◌, ℕ, Bool, List, length, All, Option, Result, Ok, Err, arith}
 use Rattle.std.proofs.Common.{refl}
 use Rattle.fractions.specs.Fraction.{Fraction}
 use Rattle.game_outside.specs.Outside.{Holding}
-use Rattle.game_model.specs.Query.{Query}
+use Rattle.game_model.specs.Query.{Query, IsQuery, states}
 use Rattle.output.specs.declared.status.Status.{Status}
 use Rattle.verdicts.specs.declared.report.How.TheVariants.{Audited, Solved}
 use Rattle.inputs.specs.Asks.{GivenTextWith}
@@ -15,7 +15,11 @@ use Rattle.inputs.specs.Texts.{text_said}
 use Rattle.inputs.proofs.HeldTexts.{text_too_long}
 use Rattle.inputs.proofs.Leaving.{answer_small}
 use Rattle.reward_check.specs.Certificates.{Certificate}
-use Rattle.reward_units.specs.Exact.{ExactRewards}
+use Rattle.reward_check.specs.Parts.{IsAccepted}
+use Rattle.reward_units.specs.Exact.{ExactRewards, AreRounded, HaveValues}
+use Rattle.reward_verdicts.specs.Truth.{IsUpTo}
+use Rattle.reward_reports.specs.Printed.{lower_of, upper_of}
+use Rattle.plan_text.specs.Entries.{greatest_rank}
 use Rattle.reward_text.specs.declared.plan.RewardPlan.{RewardPlan}
 use Rattle.reward_audit.specs.declared.fault.RewardAuditFault.{RewardAuditFault}
 use Rattle.reward_audit.specs.declared.fault.RewardAuditFault.TheVariants.{Text, Plan}
@@ -31,7 +35,8 @@ use Rattle.reward_inputs.proofs.Ends.{caused_shared}
 use Rattle.reward_inputs.specs.Posed.{RewardQuestion}
 use Rattle.reward_app.specs.Reports.{HasRewardsOf, IsRewardAudit, IsRewardSolved, RefusesOver, ReportsOn}
 use Rattle.reward_app.specs.Reports.{certificate_part, exact_by}
-use Rattle.reward_app.specs.inside.Certified.{IsCertified, as_audited, refusal_of}
+use Rattle.reward_app.specs.inside.Certified.{IsAlive, IsCertified, as_audited, refusal_of}
+use Rattle.reward_app.proofs.Entries.{entries-fit, entries-bounded}
 
 -- what is true of the source is true
 pub weaker_source : (holding : Option Holding) (name : List ℕ) (P Q : Option (List ℕ) → Type 0)
@@ -116,15 +121,22 @@ solved_certified q table solved is = record {
   passes = is.accepted;
 }
 
+-- the law that accepted bounds are in order
+abbrev pub AreAllInOrder : Type 0
+AreAllInOrder = (c : Certificate) (exact : ExactRewards) (places : ℕ) → IsQuery c.question → IsAlive c.question
+    → length c.bounded ≡ states c.question → AreRounded c exact places → HaveValues c → IsAccepted c
+    → (s : ℕ) → s < states c.question → IsUpTo (lower_of c s) (upper_of c s)
+
 -- it is reported on
-pub solved_reported : (question : RewardQuestion) (asked : Bool) (table : List (Option Fraction))
+pub solved_reported : AreAllInOrder → (question : RewardQuestion) (asked : Bool) (table : List (Option Fraction))
     (solved : SolvedRewards) (lines text : List ℕ) (status : Status) → HasRewardsOf question table
-    → IsSolvedQuestion question.posing.question table solved
+    → IsAlive question.posing.question → IsSolvedQuestion question.posing.question table solved
+    → All (λ r. r ≤ greatest_rank) solved.ranks.items
     → ReportsOn question (exact_by question table) Solved solved.places
     (audited_certificate question.posing.question (as_audited solved)) lines status
     → text ≡ lines ++ certificate_part asked question.formula (as_audited solved).plan
     → IsRewardSolved question asked text status
-solved_reported question asked table solved lines text status has is report written = record {
+solved_reported in_order question asked table solved lines text status has alive is ranks report written = record {
   table = table;
   has = has;
   plan = (as_audited solved).plan;
@@ -141,6 +153,12 @@ solved_reported question asked table solved lines text status has is report writ
     ranks = refl;
   };
   finite = is.finite;
+  lists = (solved_certified question.posing.question table solved is).lists;
+  entries = entries-fit question.posing.question table solved report.certificate.posed alive is ranks;
+  bounds = entries-bounded question.posing.question table solved report.certificate.posed alive is
+      (in_order (audited_certificate question.posing.question (as_audited solved)) (exact_by question table)
+      solved.places report.certificate.posed alive is.lists.bounded report.certificate.rounded
+      report.certificate.values is.accepted);
   lines = lines;
   report = report;
   written = written;

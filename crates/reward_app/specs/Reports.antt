@@ -1,7 +1,7 @@
 -- These definitions say what a report on expected rewards says of a question, and why a certificate is refused for it.
-use Rattle.std.specs.Prelude.{◌≡◌, ℕ, Bool, true, false, List, [], ◌++◌, Option, codes}
+use Rattle.std.specs.Prelude.{◌≡◌, ℕ, Bool, true, false, List, [], ◌++◌, Option, All, codes}
 use Rattle.fractions.specs.Fraction.{Fraction}
-use Rattle.game_model.specs.Query.{Query}
+use Rattle.game_model.specs.Query.{Query, states}
 use Rattle.almost_sure.specs.Values.{AreAlmostSure}
 use Rattle.expected_rewards.specs.Turned.{turned}
 use Rattle.rewards_reader.specs.Rewards.{HasRewards}
@@ -18,7 +18,7 @@ use Rattle.reward_check.specs.Certificates.{Certificate}
 use Rattle.reward_units.specs.Exact.{ExactRewards}
 use Rattle.reward_units.specs.Rounded.{exact_in}
 use Rattle.reward_text.specs.declared.plan.RewardPlan.{RewardPlan}
-use Rattle.reward_text.specs.Entries.{reward_entries_of}
+use Rattle.reward_text.specs.Entries.{RewardEntry, HasRewardStates, IsRewardEntry, AreBounds, reward_entries_of}
 use Rattle.reward_text.specs.Written.{reward_certificate_text}
 use Rattle.reward_audit.specs.Accepted.{IsAcceptedText, IsCertificateOf}
 use Rattle.reward_audit.specs.Refused.{IsRefused}
@@ -79,7 +79,8 @@ certificate_part true f plan = (codes "formula " ++ (reward_spelling f ++ codes 
 
 -- The text and the status are the answer of a solver: over the rewards of the question a certificate is accepted, its
 -- lower value is a number exactly where the minimiser can reach a goal almost surely, and this is the report on it. The
--- text of the certificate follows if it is asked for.
+-- plan has an entry for each state, within the limits of a text, and the bounds of each entry go together. The text of
+-- the certificate follows if it is asked for.
 pub record IsRewardSolved (question : RewardQuestion) (asked : Bool) (text : List ℕ) (status : Status) : Type 0 where
   pub table : List (Option Fraction)
   pub has : HasRewardsOf question table
@@ -87,6 +88,9 @@ pub record IsRewardSolved (question : RewardQuestion) (asked : Bool) (text : Lis
   pub certificate : Certificate
   pub of_plan : IsCertificateOf question.posing.question (exact_by question table) plan certificate
   pub finite : AreAlmostSure (turned question.posing.question) plan.finite.items
+  pub lists : HasRewardStates plan (states question.posing.question)
+  pub entries : All IsRewardEntry (reward_entries_of plan)
+  pub bounds : All (λ (entry : RewardEntry). AreBounds entry.lower entry.upper) (reward_entries_of plan)
   pub lines : List ℕ
   pub report : ReportsOn question (exact_by question table) Solved plan.places certificate lines status
   pub written : text ≡ lines ++ certificate_part asked question.formula plan

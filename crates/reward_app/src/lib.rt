@@ -13,6 +13,7 @@ mod audit;
 mod certificate;
 mod command;
 mod ends;
+pub mod laws;
 mod report;
 mod solve;
 

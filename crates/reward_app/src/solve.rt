@@ -1,6 +1,7 @@
 //! This module answers `solve` on rewards with values that a solver finds, if they pass the checks of an audit.
 
-ghost use Rattle.std.specs.Prelude.{◌≡◌, ◌++◌, ◌≤◌, OnOk, length};
+ghost use Rattle.std.specs.Prelude.{◌≡◌, ◌++◌, ◌≤◌, All, OnOk, length};
+ghost use Rattle.plan_text.specs.Entries.{greatest_rank};
 ghost use Rattle.plan_text.specs.Fixed.{unit_digits};
 ghost use Rattle.reward_formula.specs.Formula.{OfReward, any_of, RewardTree};
 ghost use Rattle.reward_text.specs.Entries.{HasRewardStates};
@@ -17,6 +18,7 @@ use reward_audit::AuditedRewards;
 use reward_formula::{AnyFormula, print_any_formula};
 use reward_inputs::{LoadedRewards, RewardEnd, pose_rewards};
 use reward_questions::solve_reward_question;
+use reward_reports::laws::accepted_bounds_are_in_order;
 use reward_text::{RewardPlan, append_reward_plan};
 use reward_words::SolveRewardWords;
 use solved_rewards::SolvedRewards;
@@ -36,6 +38,9 @@ pub fn solve_loaded(
     let rewards = &loaded.rewards;
     let formula = problem.formula;
     let solved = solve_reward_question(alloc, &problem.question, rewards)?;
+    // These calls do nothing: they recall how great a rank may be, and a law.
+    known_ranks(&solved);
+    accepted_bounds_are_in_order();
     let made = certified(solved);
     let mut answer = report_on(
         alloc,
@@ -55,6 +60,17 @@ pub fn solve_loaded(
     )?;
     Ok(answer)
 }
+
+// The type of ranks keeps them within their limit.
+fn known_ranks(solved: &SolvedRewards)
+    ensures { All (λ r. r ≤ greatest_rank) solved.now.ranks.items }
+{
+    known_list(&solved.ranks);
+}
+
+fn known_list(ranks: &[u32])
+    ensures { All (λ r. r ≤ greatest_rank) ranks.now }
+{}
 
 // Returns what a solver found as a certificate that can be written.
 fn certified(solved: SolvedRewards) -> AuditedRewards

@@ -49,8 +49,8 @@ returns c =
       asks = reads.asks question (c.in_ok-problem.ensures.says reads.lines);
       short = short;
     })
-    (solved_reported question solve.plan table solved answer.text.items text.items answer.status has
-    c.in_ok-solved.ensures
+    (solved_reported c.accepted_bounds_are_in_order.ensures question solve.plan table solved answer.text.items
+    text.items answer.status has c.in_ok-problem.ensures.alive c.in_ok-solved.ensures c.known_ranks.ensures
     (subst (λ (m : AuditedRewards). ReportsOn question (exact_by question table) Solved m.plan.places
     (audited_certificate question.posing.question m) answer.text.items answer.status) c.certified-made.ensures
     (rw c.deref.ensures.value at c.in_ok-answer.ensures.report))
