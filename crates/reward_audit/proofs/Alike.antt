@@ -149,9 +149,9 @@ right Lower c d s k same looked may (inl away) = inl away
 right Lower c d s k same looked may (inr paid) =
     let m = choice_of c.question.game s k in
     elim (either-way c.finite m.edges) [
-    | inl stays ↦ inr (below (λ r w x. x * m.total ≤ r * m.total + w) c d s k same looked may.0 stays paid)
-    | inr away ↦ inl away
-  ]
+      | inl stays ↦ inr (below (λ r w x. x * m.total ≤ r * m.total + w) c d s k same looked may.0 stays paid)
+      | inr away ↦ inl away
+    ]
 right Infinite c d s k same looked may h = h
 
 lack : (part : Part) (c d : Certificate) (s k : ℕ) (cause : RewardCause) → AreAlike c d → LooksAt part c s
